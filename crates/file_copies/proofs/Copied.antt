@@ -25,7 +25,7 @@ module _ (suffix : List ℕ) where
       first_then (bytes_eq y z) (copy_name suffix x, z) (copies suffix (names ++ name ∷ []) (olds ++ old ∷ []) (news ++ new ∷ [])) (copies suffix names olds news) (one_copy suffix name old new)
       (copies_push names olds news name old new (omega (arith, e)) (omega (arith, f)))
 
--- one file more, where it is changed and where it is not
+-- one more file, if it is changed and if it is not
 module _ (suffix : List ℕ) (names olds news : List (List ℕ)) (at : ℕ) (name old new : List ℕ) (few : at < length names)
     (same_olds : length olds ≡ length names) (same_news : length news ≡ length names)
     (name_is : get_or names at name ≡ name) (old_is : get_or olds at old ≡ old) (new_is : get_or news at new ≡ new) where
@@ -49,11 +49,13 @@ module _ (suffix : List ℕ) (names olds news : List (List ℕ)) (at : ℕ) (nam
   changed true pair e = absurd (cc)
   changed false pair e = refl
 
-  pub changed_more : bytes_eq old new ≡ false → copies suffix (take (at + 1) names) (take (at + 1) olds) (take (at + 1) news) ≡ copies suffix (take at names) (take at olds) (take at news) ++ (copy_name suffix name, new) ∷ []
+  pub changed_more : bytes_eq old new ≡ false →
+      copies suffix (take (at + 1) names) (take (at + 1) olds) (take (at + 1) news) ≡ copies suffix (take at names) (take at olds) (take at news) ++ (copy_name suffix name, new) ∷ []
   changed_more differ = more ∙ ap (λ (ps : List (List ℕ × List ℕ)). copies suffix (take at names) (take at olds) (take at news) ++ ps) (changed (bytes_eq old new) (copy_name suffix name, new) differ)
 
   pub kept_more : bytes_eq old new ≡ true → copies suffix (take (at + 1) names) (take (at + 1) olds) (take (at + 1) news) ≡ copies suffix (take at names) (take at olds) (take at news)
-  kept_more same = more ∙ ap (λ (ps : List (List ℕ × List ℕ)). copies suffix (take at names) (take at olds) (take at news) ++ ps) (kept (bytes_eq old new) (copy_name suffix name, new) same) ∙ append-nil (copies suffix (take at names) (take at olds) (take at news))
+  kept_more same = more ∙ ap (λ (ps : List (List ℕ × List ℕ)). copies suffix (take at names) (take at olds) (take at news) ++ ps)
+      (kept (bytes_eq old new) (copy_name suffix name, new) same) ∙ append-nil (copies suffix (take at names) (take at olds) (take at news))
 
 pub texts_same : (old new : List ℕ) → old ≡ new → bytes_eq old new ≡ true
 texts_same old new e = search (rules, bytes_eq-Decides)

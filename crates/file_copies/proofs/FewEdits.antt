@@ -1,4 +1,4 @@
--- A network with few classes and few edits passes neither limit.
+-- A network with few classes and few edits exceeds neither limit.
 use Rattle.std.proofs.Common.{◌≡◌, ℕ, ◌≤◌, List, length, ap, arith}
 use Rattle.arc_base.specs.declared.refusal.LimitKind.{LimitKind}
 use Rattle.arc_base.specs.declared.refusal.LimitKind.TheVariants.{Classes, Edits}

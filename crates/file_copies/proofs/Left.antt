@@ -2,22 +2,13 @@
 use Rattle.std.proofs.Common.{◌≡◌, ◌≢◌, ℕ, suc, inl, inr, Bool, true, false, cond, Some, List, [], ◌∷◌, refl, sym, ◌∙◌, ap, arith}
 use Rattle.std.specs.Prelude.{bytes_eq, ◌||◌, AllPairs, Contains}
 use Rattle.std.specs.List.{list_any, AllZip}
-use Rattle.std.proofs.lemmas.Bool.{false≢true, or_parts}
+use Rattle.std.proofs.lemmas.Bool.{or_parts}
 use Rattle.std.proofs.lemmas.List.{append_cancel_right}
 use Rattle.arc_base.proofs.Items.{Contains-head, Contains-tail, Contains-cases, Contains-none, Contains-map}
 use Rattle.arc_outside.specs.Files.{Files, with_file, with_files}
 use Rattle.file_copies.specs.Outputs.{copy_name, copy_names, copies, clashes, IsLeft, CopiesAreLeft}
-use Rattle.file_copies.proofs.Copied.{texts_same, texts_differ, same_texts}
-
--- the names that no output has
-none_is : (inputs : List (List ℕ)) (output input : List ℕ) → list_any (λ other. bytes_eq other output) inputs ≡ false → Contains inputs input → input ≡ output → ⊥
-none_is [] output input none within same = Contains-none input within
-none_is (x ∷ inputs) output input none within same =
-    let parts = or_parts (bytes_eq x output) (list_any (λ other. bytes_eq other output) inputs) none in
-    elim (Contains-cases x input inputs within) [
-      | inl here ↦ false≢true (sym parts.0 ∙ texts_same x output (here ∙ same))
-      | inr later ↦ none_is inputs output input parts.1 later same
-    ]
+use Rattle.file_copies.proofs.Copied.{same_texts}
+use Rattle.file_copies.proofs.OneMore.{is_written, none_is, other_kept}
 
 free_of : (inputs outputs : List (List ℕ)) (input output : List ℕ) → clashes inputs outputs ≡ false → Contains outputs output → Contains inputs input → input ≡ output → ⊥
 free_of inputs [] input output free of within same = Contains-none output of
@@ -30,19 +21,14 @@ free_of inputs (x ∷ outputs) input output free of within same =
     ]
 
 module _ (suffix : List ℕ) where
-  at_other : (files : Files) (name bytes q : List ℕ) → (name ≡ q → ⊥) → with_file files name bytes q ≡ files q
-  at_other files name bytes q other = ap (λ (b : Bool). cond b (Some bytes) (files q)) (texts_differ name q other)
-
-  at_same : (files : Files) (name bytes : List ℕ) → with_file files name bytes name ≡ Some bytes
-  at_same files name bytes = ap (λ (b : Bool). cond b (Some bytes) (files name)) (texts_same name name refl)
-
   step : (same : Bool) (pair : List ℕ × List ℕ) (rest : List (List ℕ × List ℕ)) (files : Files) (q : List ℕ) → (pair.0 ≡ q → ⊥) → ((now : Files) → with_files rest now q ≡ now q) →
       with_files (cond same rest (pair ∷ rest)) files q ≡ files q
   step true pair rest files q other keeps = keeps files
-  step false pair rest files q other keeps = keeps (with_file files pair.0 pair.1) ∙ at_other files pair.0 pair.1 q other
+  step false pair rest files q other keeps = keeps (with_file files pair.0 pair.1) ∙ other_kept files pair.0 pair.1 q other
 
   -- a name that is no copy's holds what it held
-  untouched : (names olds news : List (List ℕ)) (q : List ℕ) → ((n : List ℕ) → Contains names n → copy_name suffix n ≡ q → ⊥) → (files : Files) → with_files (copies suffix names olds news) files q ≡ files q
+  untouched : (names olds news : List (List ℕ)) (q : List ℕ) → ((n : List ℕ) → Contains names n → copy_name suffix n ≡ q → ⊥) → (files : Files) →
+      with_files (copies suffix names olds news) files q ≡ files q
   untouched [] olds news q other files = refl
   untouched (x ∷ names) [] news q other files = refl
   untouched (x ∷ names) (y ∷ olds) [] q other files = refl
@@ -60,7 +46,7 @@ module _ (suffix : List ℕ) where
     still_held x z files [] (o ∷ olds) of within held = held
     still_held x z files (n ∷ names) [] of within held = held
     still_held x z files (n ∷ names) (o ∷ olds) of within held = (
-      (held.0.0, at_other files (copy_name suffix x) z n (free x n of (within n (Contains-head n names))) ∙ held.0.1),
+      (held.0.0, other_kept files (copy_name suffix x) z n (free x n of (within n (Contains-head n names))) ∙ held.0.1),
       still_held x z files names olds of (λ m inside. within m (Contains-tail n m names inside)) held.1,
     )
 
@@ -85,7 +71,7 @@ module _ (suffix : List ℕ) where
         let now : Files = with_file files (copy_name suffix x) z in (
           inl (
               untouched names olds news (copy_name suffix x) (λ n inside same. head_apart x names apart n inside (append_cancel_right n x suffix same)) now
-              ∙ at_same files (copy_name suffix x) z
+              ∙ is_written files (copy_name suffix x) z
               ),
           others now (still_held x z files names olds of within rest),
         )
@@ -102,7 +88,8 @@ module _ (suffix : List ℕ) where
         one_left (bytes_eq y z) x y z names olds news files refl (within x (Contains-head x names)) later apart held.0 held.1
         (λ now still. all_left names olds news now later (tail_apart x names apart) still long.1)
 
-held_twice : (before : Files) (names olds : List (List ℕ)) → AllZip (λ name old. before name ≡ Some old) names olds → AllZip (λ name old. (before name ≡ Some old) × (before name ≡ Some old)) names olds
+held_twice : (before : Files) (names olds : List (List ℕ)) → AllZip (λ name old. before name ≡ Some old) names olds →
+    AllZip (λ name old. (before name ≡ Some old) × (before name ≡ Some old)) names olds
 held_twice before [] [] held = tt
 held_twice before [] (y ∷ olds) held = held
 held_twice before (x ∷ names) [] held = held

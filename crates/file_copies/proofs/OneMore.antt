@@ -1,4 +1,4 @@
--- One more file is written behind the copies, under a name that is none of theirs and of no file that was read.
+-- One more file is written after the copies, under a name that is none of theirs and of no file that was read.
 use Rattle.std.proofs.Common.{◌≡◌, ℕ, inl, inr, Bool, false, cond, Some, List, [], ◌∷◌, ◌++◌, refl, sym, ◌∙◌, ap}
 use Rattle.std.specs.Prelude.{◌||◌, bytes_eq, Contains}
 use Rattle.std.specs.List.{list_any, AllZip}
@@ -27,7 +27,7 @@ is_written files name bytes = ap (λ (b : Bool). cond b (Some bytes) (files name
 
 -- ---- names that are free
 
-none_is : (names : List (List ℕ)) (output name : List ℕ) → list_any (λ other. bytes_eq other output) names ≡ false → Contains names name → name ≡ output → ⊥
+pub none_is : (names : List (List ℕ)) (output name : List ℕ) → list_any (λ other. bytes_eq other output) names ≡ false → Contains names name → name ≡ output → ⊥
 none_is [] output name none within same = Contains-none name within
 none_is (x ∷ names) output name none within same =
     let parts = or_parts (bytes_eq x output) (list_any (λ other. bytes_eq other output) names) none in
@@ -36,7 +36,7 @@ none_is (x ∷ names) output name none within same =
       | inr later ↦ none_is names output name parts.1 later same
     ]
 
--- the last of outputs that do not clash is none of the others and of no input, and the others do not clash
+-- the last of outputs that do not clash differs from the others and from each input, and the others do not clash
 pub record IsFreeLast (inputs outputs : List (List ℕ)) (last : List ℕ) : Type 0 where
   pub others : clashes inputs outputs ≡ false
   pub of_inputs : (name : List ℕ) → Contains inputs name → name ≡ last → ⊥

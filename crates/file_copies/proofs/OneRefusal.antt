@@ -1,4 +1,4 @@
--- A document has one refusal, and a network passes one limit of its classes and edits first.
+-- A document has one refusal, and a network has one first limit of its classes and edits that it exceeds.
 use Rattle.std.proofs.Common.{◌≡◌, ◌∙◌, ℕ, inl, inr, List, [], length, refl, ap, arith}
 use Rattle.arc_base.specs.declared.refusal.Kind.TheVariants as kinds
 use Rattle.arc_base.specs.declared.refusal.LimitKind.{LimitKind}
@@ -29,7 +29,7 @@ held_or_refused document files doc r h (inr u) = document_none Editing [] docume
 
 -- ---- the limits
 
--- few edits come with few classes
+-- the number of edits is counted only if there are few classes
 many_or_edits : (net : Network) (doc : Document) (c d : ℕ) → NamesLimit net doc (Limit Classes c) → NamesLimit net doc (Limit Edits d) → ⊥
 many_or_edits net doc c d many edits =
     let are = edits.1.are in

@@ -1,5 +1,5 @@
 -- What is left once the copies of changed files are written.
-use Rattle.std.proofs.Common.{◌≡◌, ℕ, ◌-◌, Bool, true, false, cond, Option, Some, None, List, [], ◌∷◌, length, map, refl, sym, ◌∙◌, ap, subst, min, arith}
+use Rattle.std.proofs.Common.{◌≡◌, ℕ, ◌-◌, Bool, true, false, cond, Option, Some, None, List, [], ◌∷◌, length, map, refl, sym, ◌∙◌, subst, min, arith}
 use Rattle.std.specs.Prelude.{◌||◌, bytes_eq, All, Contains, unwrap_or}
 use Rattle.std.specs.List.{list_any, AllZip}
 use Rattle.std.proofs.lemmas.Bool.{or_from, or_parts}
@@ -10,8 +10,8 @@ use Rattle.net_model.specs.declared.policies.Document.{Document}
 use Rattle.net_build.specs.declared.built.Built.{Built}
 use Rattle.edit_list.specs.declared.edit_kinds.Edit.{Edit}
 use Rattle.file_copies.specs.Outputs.{copy_name, copy_names, copies, clashes, IsLeft}
-use Rattle.file_copies.proofs.Copied.{texts_differ}
 use Rattle.file_copies.proofs.Left.{copies_left}
+use Rattle.file_copies.proofs.OneMore.{other_kept}
 use Rattle.run_files.specs.declared.outcome.FileRefusal.{FileRefusal}
 use Rattle.run_files.specs.declared.limits.Limits.TheVariants.{Editing}
 use Rattle.run_files.specs.Limits.{router_limit, routers_limit}
@@ -22,7 +22,7 @@ use Rattle.file_copies.specs.Changes.{changed_names, Changes, ChangesAreLeft, Is
 
 -- ---- names that clash with none
 
--- outputs that clash with no input clash with none of fewer
+-- outputs that clash with no input clash with none of fewer inputs
 pub fewer_inputs : (input : List ℕ) (inputs outputs : List (List ℕ)) → clashes (input ∷ inputs) outputs ≡ false → clashes inputs outputs ≡ false
 fewer_inputs input inputs [] free = refl
 fewer_inputs input inputs (name ∷ outputs) free =
@@ -62,7 +62,8 @@ as_many [] (new ∷ news) e = absurd (omega (arith, e))
 as_many (old ∷ olds) [] e = absurd (omega (arith, e))
 as_many (old ∷ olds) (new ∷ news) e = (tt, as_many olds news (omega (arith, e)))
 
-pub texts_left : (suffix document : List ℕ) (before : Files) (doc : Document) (built : Built) (chosen : List Edit) (writes : List (List ℕ × List ℕ)) → HoldsInput Editing [] document before doc built.net
+pub texts_left : (suffix document : List ℕ) (before : Files) (doc : Document) (built : Built) (chosen : List Edit) (writes : List (List ℕ × List ℕ)) →
+    HoldsInput Editing [] document before doc built.net
     → IsEditable doc built (contents before doc) → clashes (document ∷ doc.routers) (copy_names suffix doc.routers) ≡ false → (changes : Changes suffix doc built (contents before doc) chosen writes)
     → AllZip (IsLeft suffix before (with_files writes before)) doc.routers changes.new
 texts_left suffix document before doc built chosen writes input editable free changes =
@@ -77,13 +78,10 @@ pub changes_left : ChangesAreLeft
 changes_left suffix document before doc built chosen writes input editable free changes =
     record { new = changes.new; patched = changes.patched; left = texts_left suffix document before doc built chosen writes input editable free changes }
 
--- ---- all else
+-- ---- all other files
 
 abbrev name_written : List ℕ × List ℕ → List ℕ
 name_written write = write.0
-
-at_other : (files : Files) (name bytes q : List ℕ) → (name ≡ q → ⊥) → with_file files name bytes q ≡ files q
-at_other files name bytes q other = ap (λ (b : Bool). cond b (Some bytes) (files q)) (texts_differ name q other)
 
 -- a name that is not written holds what it held
 others_kept : (writes : List (List ℕ × List ℕ)) (q : List ℕ) → ¬ Contains (map name_written writes) q → (files : Files) → with_files writes files q ≡ files q
@@ -91,10 +89,11 @@ others_kept [] q none files = refl
 others_kept (write ∷ writes) q none files =
     let P : List ℕ → Type 0 = λ n. Contains (map name_written (write ∷ writes)) n in
     others_kept writes q (λ within. none (Contains-tail write.0 q (map name_written writes) within)) (with_file files write.0 write.1)
-    ∙ at_other files write.0 write.1 q (λ same. none (subst P same (Contains-head write.0 (map name_written writes))))
+    ∙ other_kept files write.0 write.1 q (λ same. none (subst P same (Contains-head write.0 (map name_written writes))))
 
--- so does a name that is not that of the copy of a changed file
-pub unchanged_kept : (suffix : List ℕ) (doc : Document) (built : Built) (chosen : List Edit) (writes : List (List ℕ × List ℕ)) (files : Files) (changes : Changes suffix doc built (contents files doc) chosen writes)
+-- a name that is not that of the copy of a changed file holds what it held
+pub unchanged_kept : (suffix : List ℕ) (doc : Document) (built : Built) (chosen : List Edit) (writes : List (List ℕ × List ℕ)) (files : Files)
+    (changes : Changes suffix doc built (contents files doc) chosen writes)
     (q : List ℕ) → ¬ Contains (changed_names suffix doc files changes.new) q → with_files writes files q ≡ files q
 unchanged_kept suffix doc built chosen writes files changes q none =
     let P : List (List ℕ × List ℕ) → Type 0 = λ pairs. with_files pairs files q ≡ files q in

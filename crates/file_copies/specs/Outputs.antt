@@ -25,7 +25,7 @@ clashes inputs (name ∷ outputs) =
     list_any (λ other. bytes_eq other name) inputs ||
     (list_any (λ other. bytes_eq other name) outputs || clashes inputs outputs)
 
--- the copies of the files that are changed, in their order, with their names
+-- the copies of the changed files, in their order, with their names
 abbrev pub copies : List ℕ → List (List ℕ) → List (List ℕ) → List (List ℕ) → List (List ℕ × List ℕ)
 copies suffix (name ∷ names) (old ∷ olds) (new ∷ news) =
     if bytes_eq old new then copies suffix names olds news
@@ -43,7 +43,7 @@ IsLeft suffix before after name text =
     (after (copy_name suffix name) ≡ Some text) ⊎
     ((before name ≡ Some text) × (after name ≡ Some text))
 
--- Where files hold these texts under different names, and no copy has the name of one, each new
+-- If files hold these texts under different names, and no copy has one of these names, each new
 -- text is left once the copies are written.
 abbrev pub CopiesAreLeft : Type 0
 CopiesAreLeft =

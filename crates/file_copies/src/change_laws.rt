@@ -6,8 +6,8 @@ pub fn changes_are_left()
     ensures { ChangesAreLeft }
 {}
 
-/// Router files from which a network was built have patches by all edits, and these, read again,
-/// have exactly the network after the edits.
+/// Router files that a network was built from can be patched by any edits, and the patched files,
+/// read again, have exactly the network after the edits.
 pub fn patches_have_the_network()
     ensures there { PatchesAreThere }
     ensures network { PatchesHaveTheNetwork }

@@ -1,7 +1,7 @@
-//! The router files that edits change, as a command writes them: a copy of each file that is
-//! changed, under its name with a suffix. A name that is written may be none that is read, and none
-//! is written twice. Once they are written, the router files are left patched, and read again they
-//! have the network after the edits.
+//! The router files that edits change, as a command writes them: a copy of each changed file, under
+//! its name with a suffix. No file that is read is written over, and none is written twice. Once
+//! they are written, the router files are left patched, and read again they have the network after
+//! the edits.
 #![tactic(auto)]
 
 pub mod change_laws;

@@ -33,7 +33,7 @@ pub fn holds(names: &[Name], name: &Name) -> bool
     names.iter().any(|other| other.is(name.bytes()))
 }
 
-// Whether an input, or one of the other outputs, has this name.
+// Whether an input or one of the other outputs has this name.
 fn is_taken(document: &Name, routers: &[Name], others: &[Name], name: &Name) -> bool
     ensures { result ≡ (list_any (λ other. bytes_eq other name.now) (document.now ∷ routers.now)
         || list_any (λ other. bytes_eq other name.now) others.now) }
@@ -41,8 +41,8 @@ fn is_taken(document: &Name, routers: &[Name], others: &[Name], name: &Name) -> 
     document.is(name.bytes()) || holds(routers, name) || holds(others, name)
 }
 
-/// Whether one of the outputs has the name of the document or of a router file, or of another
-/// output. The time is the product of their numbers.
+/// Whether one of the outputs has the name of the document, of a router file, or of another output.
+/// It compares each output with each of these.
 pub fn clashes(document: &Name, routers: &[Name], outputs: &[Name]) -> bool
     ensures { result ≡ clashes (document.now ∷ routers.now) outputs.now }
 {
@@ -56,7 +56,7 @@ pub fn clashes(document: &Name, routers: &[Name], outputs: &[Name]) -> bool
     false
 }
 
-/// The copies of the files that are changed, with their names.
+/// The copies of the changed files, with their names.
 pub fn copies(
     alloc: Global,
     suffix: &Name,
@@ -78,7 +78,7 @@ pub fn copies(
     Ok(writes)
 }
 
-/// Puts a line for each file that is written behind a text.
+/// Appends a line `wrote NAME` for each file that is written.
 pub fn push_wrote(text: &mut Vec<u8>, writes: &[(Name, Name)]) -> Result<(), Memory>
     ensures { IfOk result (λ done. text.new.items ≡ text.old.items ++ wrote_lines writes.now) }
 {

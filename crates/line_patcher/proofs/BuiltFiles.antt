@@ -6,19 +6,12 @@ use Rattle.std.proofs.lemmas.Option.{none-some, same_Some, slice_get-get_or}
 use Rattle.std.proofs.lemmas.List.{length-map}
 use Rattle.std.proofs.lemmas.Slice.Zip.{AllZip-long}
 use Rattle.net_model.specs.declared.policies.Document.{Document}
-use Rattle.ios_lines.specs.declared.line.Lines.{Lines}
 use Rattle.ios_lines.specs.Lines.{AreLinesOf}
 use Rattle.net_build.specs.declared.built.Built.{Built}
 use Rattle.net_build.specs.Networks.{IsBuilt, Says}
 use Rattle.net_build.specs.Places.{places_of}
 use Rattle.net_rules.specs.Rows.{IsRouterRow}
-
--- the network has the router of this place, and the lines and the places of its file
-pub record IsFileOf (built : Built) (router : ℕ) (text : List ℕ) : Type 0 where
-  pub routed : router < length built.net.routers
-  pub placed : router < length built.places
-  pub lined : router < length built.lines
-  pub lines : (lines : Lines) → slice_get built.lines router ≡ Some lines → AreLinesOf text lines
+use Rattle.line_patcher.specs.Working.{IsFileOf}
 
 beside : {X Y : Type 0} (R : X → Y → Type 0) (xs : List X) (ys : List Y) (k : ℕ) (x : X) (y : Y) → AllZip R xs ys → slice_get xs k ≡ Some x → slice_get ys k ≡ Some y → R x y
 beside {X} {Y} R [] ys k x y all at_x at_y = absurd (none-some x at_x)
@@ -26,7 +19,8 @@ beside {X} {Y} R (u ∷ xs) [] k x y all at_x at_y = absurd all
 beside {X} {Y} R (u ∷ xs) (v ∷ ys) zero x y all at_x at_y = subst (λ (w : Y). R x w) (same_Some v y at_y) (subst (λ (w : X). R w v) (same_Some u x at_x) all.0)
 beside {X} {Y} R (u ∷ xs) (v ∷ ys) (suc k) x y all at_x at_y = beside R xs ys k x y all.1 at_x at_y
 
-pub is-file : (doc : Document) (files : List (List ℕ)) (built : Built) (router : ℕ) (text : List ℕ) → IsBuilt doc files built → router < length files → text ≡ get_or files router text → IsFileOf built router text
+pub is-file : (doc : Document) (files : List (List ℕ)) (built : Built) (router : ℕ) (text : List ℕ) → IsBuilt doc files built → router < length files → text ≡ get_or files router text →
+    IsFileOf built router text
 is-file doc files built router text is low there =
     let configs = is.network.configs in
     let said = AllZip-long Says files configs is.network.said in

@@ -24,7 +24,8 @@ IsOfFace net list = (face_of list).0 < length net.faces
 route-face : (net : Network) (chosen : List Edit) (session : SessionRow) (y : ℕ × NewList) → new_route_list net chosen session ≡ Some y → IsOfFace net y.1
 route-face net chosen session y is = by (is_empty (new_prefixes chosen session.face.0)) (slice_get net.faces session.face.0) refl is
   where
-    by : (b : Bool) (o : Option FaceRow) → slice_get net.faces session.face.0 ≡ o → (if b then None else option_map (λ (face : FaceRow). (face.router.0, Route session.face)) o) ≡ Some y → IsOfFace net y.1
+    by : (b : Bool) (o : Option FaceRow) → slice_get net.faces session.face.0 ≡ o →
+        (if b then None else option_map (λ (face : FaceRow). (face.router.0, Route session.face)) o) ≡ Some y → IsOfFace net y.1
     by true o there e = absurd (none-some y e)
     by false None there e = absurd (none-some y e)
     by false (Some row) there e = subst (λ (x : ℕ × NewList). IsOfFace net x.1) (same_Some (row.router.0, Route session.face) y e) (slice_get_within net.faces session.face.0 row there)
@@ -34,7 +35,8 @@ packet-face net chosen face y there is = by (is_empty (new_classes chosen face.0
   where
     by : (b : Bool) → (if b then None else Some (face.1.router.0, Packet (record { 0 = face.0 }))) ≡ Some y → IsOfFace net y.1
     by true e = absurd (none-some y e)
-    by false e = subst (λ (x : ℕ × NewList). IsOfFace net x.1) (same_Some (face.1.router.0, Packet (record { 0 = face.0 })) y e) (slice_get_within net.faces face.0 face.1 (placed_is net.faces face there))
+    by false e = subst (λ (x : ℕ × NewList). IsOfFace net x.1) (same_Some (face.1.router.0, Packet (record { 0 = face.0 })) y e)
+        (slice_get_within net.faces face.0 face.1 (placed_is net.faces face there))
 
 all-faces : (net : Network) (chosen : List Edit) (y : ℕ × NewList) → Contains (new_lists net chosen) y → IsOfFace net y.1
 all-faces net chosen y there = ⊎_elim
@@ -62,4 +64,5 @@ zip-first (x ∷ xs) (y ∷ ys) p there = ⊎_elim
 pub named-faces : (net : Network) (chosen : List Edit) (router : ℕ) (named : List (NewList × List ℕ)) → named ≡ named_lists net chosen router → All (λ (n : NewList × List ℕ). IsOfFace net n.0) named
 named-faces net chosen router named is = λ k d low.
     let n = get_or named k d in
-    router-faces net chosen router n.0 (zip-first (new_lists_of net chosen router) (new_names_of net chosen router) n (subst (λ (l : List (NewList × List ℕ)). Contains l n) is (Contains-get_or named k d low)))
+    router-faces net chosen router n.0
+    (zip-first (new_lists_of net chosen router) (new_names_of net chosen router) n (subst (λ (l : List (NewList × List ℕ)). Contains l n) is (Contains-get_or named k d low)))

@@ -20,7 +20,7 @@ use Rattle.net_build.specs.declared.built.ListPlace.{ListPlace}
 use Rattle.net_rules.specs.Lists.{packet_text}
 use Rattle.edit_list.specs.declared.edit_kinds.Edit.{Edit}
 use Rattle.edit_list.specs.After.{opposite_packet_entry, opposite_route_entry}
-use Rattle.edit_list.specs.Changes.{list_prefixes, list_classes}
+use Rattle.edit_list.specs.Changes.{packet_list_change, route_list_change}
 use Rattle.arc_base.specs.Numbered.{of_number, placed, is_empty}
 use Rattle.line_patcher.specs.declared.additions.NewNumber.{NewNumber}
 
@@ -89,62 +89,83 @@ abbrev pub new_numbers : ListPlace → ℕ → ℕ → ℕ → List (ℕ × NewN
 new_numbers place word step count =
     if place.numbered then map (new_number word step count) (enumerate_from 1 place.entries) else []
 
+-- the list at this place, with its router, if edits add entries to it
+abbrev pub edited_by : {L X : Type 0} → (L → ℕ) → (Edit → Option (ℕ × X)) → List Edit → ℕ × L →
+    Option (ℕ × ℕ)
+edited_by router change chosen list =
+    if is_empty (of_number list.0 (filter_map change chosen)) then None
+    else Some (router list.1, list.0)
+
 -- the packet list at this place, with its router, if edits add entries to it
 abbrev pub edited_packet_list : List Edit → ℕ × PacketList → Option (ℕ × ℕ)
-edited_packet_list chosen list =
-    if is_empty (list_classes chosen list.0) then None else Some (list.1.router.0, list.0)
+edited_packet_list = edited_by (λ list. list.router.0) packet_list_change
 
 -- the route list at this place, with its router, if edits add entries to it
 abbrev pub edited_route_list : List Edit → ℕ × RouteList → Option (ℕ × ℕ)
-edited_route_list chosen list =
-    if is_empty (list_prefixes chosen list.0) then None else Some (list.1.router.0, list.0)
+edited_route_list = edited_by (λ list. list.router.0) route_list_change
 
--- the packet lists of a router to which edits add entries
+-- the places of those of these lists that are of this router and to which edits add entries
+abbrev pub edited_lists : {L X : Type 0} → List (ℕ × L) → (L → ℕ) → (Edit → Option (ℕ × X)) →
+    List Edit → ℕ → List ℕ
+edited_lists lists router change chosen number =
+    of_number number (filter_map (edited_by router change chosen) lists)
+
 abbrev pub edited_packet_lists : Network → List Edit → ℕ → List ℕ
-edited_packet_lists net chosen router =
-    of_number router (filter_map (edited_packet_list chosen) (placed net.packet_lists))
+edited_packet_lists net =
+    edited_lists (placed net.packet_lists) (λ list. list.router.0) packet_list_change
 
--- the route lists of a router to which edits add entries
 abbrev pub edited_route_lists : Network → List Edit → ℕ → List ℕ
-edited_route_lists net chosen router =
-    of_number router (filter_map (edited_route_list chosen) (placed net.route_lists))
+edited_route_lists net =
+    edited_lists (placed net.route_lists) (λ list. list.router.0) route_list_change
 
--- what a file of these places has for the packet list at this place of the network, where it has
--- that list, and else nothing
-abbrev pub for_packet_list : {X : Type 0} → Network → Places →
-    (PacketList → ListPlace → List X) → ℕ → List X
-for_packet_list net own things id =
-    option_map_or (λ list. option_map_or (things list) (packet_place own list.name) [])
-    (slice_get net.packet_lists id) []
+-- the new entries of a list at this place, each before its first one
+abbrev pub entries_at : {L X : Type 0} → (ListPlace → L → ℕ × X → Command) → L → ListPlace →
+    List X → List (ℕ × Command)
+entries_at command list place things =
+    at_front place (map (command place list) (enumerate_from 1 things))
 
--- and for the route list
-abbrev pub for_route_list : {X : Type 0} → Network → Places →
-    (RouteList → ListPlace → List X) → ℕ → List X
-for_route_list net own things id =
-    option_map_or (λ list. option_map_or (things list) (route_place own list.name) [])
-    (slice_get net.route_lists id) []
+-- the new numbers of its old entries, which are this word of their lines and rise by this step
+abbrev pub numbers_of : {X : Type 0} → ℕ × ℕ → ListPlace → List X → List (ℕ × NewNumber)
+numbers_of numbering place things = new_numbers place numbering.0 numbering.1 (length things)
 
--- the new entries of the packet list at this place, each before its first one
+-- what a file has for the list at this place of the network, where it has that list at a place of
+-- its own, and else nothing
+abbrev pub for_list : {L X : Type 0} → List L → (L → Option ListPlace) →
+    (L → ListPlace → List X) → ℕ → List X
+for_list lists place things id =
+    option_map_or (λ list. option_map_or (things list) (place list) []) (slice_get lists id) []
+
+-- the new entries of the list at this place of the network, and the new numbers of its old ones
+abbrev pub list_entries : {L X : Type 0} → List L → (L → Option ListPlace) →
+    (ListPlace → L → ℕ × X → Command) → (Edit → Option (ℕ × X)) → List Edit → ℕ →
+    List (ℕ × Command)
+list_entries lists place command change chosen id =
+    for_list lists place
+    (λ list there. entries_at command list there (of_number id (filter_map change chosen))) id
+
+abbrev pub list_numbers : {L X : Type 0} → List L → (L → Option ListPlace) → ℕ × ℕ →
+    (Edit → Option (ℕ × X)) → List Edit → ℕ → List (ℕ × NewNumber)
+list_numbers lists place numbering change chosen id =
+    for_list lists place
+    (λ list there. numbers_of numbering there (of_number id (filter_map change chosen))) id
+
+-- the new entries of the packet list at this place, and those of the route list
 abbrev pub packet_list_entries : Network → Places → List Edit → ℕ → List (ℕ × Command)
-packet_list_entries net own chosen id =
-    for_packet_list net own
-    (λ list place. at_front place (class_commands place list (list_classes chosen id))) id
+packet_list_entries net own =
+    list_entries net.packet_lists (λ list. packet_place own list.name) class_command
+    packet_list_change
 
--- and those of the route list
 abbrev pub route_list_entries : Network → Places → List Edit → ℕ → List (ℕ × Command)
-route_list_entries net own chosen id =
-    for_route_list net own
-    (λ list place. at_front place (prefix_commands place list (list_prefixes chosen id))) id
+route_list_entries net own =
+    list_entries net.route_lists (λ list. route_place own list.name) prefix_command
+    route_list_change
 
 -- the new numbers of the packet list's old entries, which are the first words of their lines and
--- rise by 10
+-- rise by 10, and those of the route list's, which follow seq and rise by 5
 abbrev pub packet_list_numbers : Network → Places → List Edit → ℕ → List (ℕ × NewNumber)
-packet_list_numbers net own chosen id =
-    for_packet_list net own
-    (λ list place. new_numbers place 0 10 (length (list_classes chosen id))) id
+packet_list_numbers net own =
+    list_numbers net.packet_lists (λ list. packet_place own list.name) (0, 10) packet_list_change
 
--- and those of the route list's, which follow seq and rise by 5
 abbrev pub route_list_numbers : Network → Places → List Edit → ℕ → List (ℕ × NewNumber)
-route_list_numbers net own chosen id =
-    for_route_list net own
-    (λ list place. new_numbers place 4 5 (length (list_prefixes chosen id))) id
+route_list_numbers net own =
+    list_numbers net.route_lists (λ list. route_place own list.name) (4, 5) route_list_change

@@ -1,12 +1,13 @@
-//! What is added to one file, each item with the number of a line.
-ghost use Rattle.std.specs.Prelude.{◌≡◌, ◌≤◌, ◌<◌, [], length, IfOk, IsTrue};
-ghost use Rattle.line_patcher.specs.Additions.{all_at, commands_before, commands_after, numbers_at};
+//! What is added to one file: commands and new numbers, each with the number of a line.
 ghost use Rattle.edit_list.specs.NewLists.{named_lists};
+ghost use Rattle.line_patcher.specs.Additions.{all_at, commands_before, commands_after, numbers_at};
 ghost use Rattle.line_patcher.specs.Working.{IsPlan};
+ghost use Rattle.std.specs.List.{cons_option};
+ghost use Rattle.std.specs.Prelude.{◌≡◌, ◌≤◌, ◌<◌, ◌++◌, [], length, IfOk, OnOk};
 
-use crate::edited_lists::{new_numbers, push_packet_entries, push_route_entries};
+use crate::entries::push_lists;
 use crate::new_lists::{
-    NamedList, commands_of_new_lists, named_lists, push_filter_commands, push_group_commands,
+    NamedList, commands_of_new_lists, push_filter_commands, push_group_commands,
 };
 use crate::plans::Plan;
 use crate::sessions::push_session_commands;
@@ -15,6 +16,7 @@ use arc_base::groups::things_at;
 use arc_base::limits::EDIT_LIMIT;
 use ios_words::Command;
 use net_build::{Built, Places};
+use net_model::{PacketList, RouteList};
 use std::alloc::Global;
 
 /// A number that replaces another in a line.
@@ -23,17 +25,6 @@ pub struct NewNumber {
     /// The word that it is, counted from 0.
     pub word: u32,
     pub number: u64,
-}
-
-/// What is added to one file.
-#[derive(Debug, Drop)]
-pub struct Additions {
-    /// Commands, each with the number of the line that it comes before.
-    pub before: Vec<(u32, Command)>,
-    /// New numbers, each with the number of its line.
-    pub numbers: Vec<(u32, NewNumber)>,
-    /// Commands, each with the number of the line that it comes after.
-    pub after: Vec<(u32, Command)>,
 }
 
 /// Each of the commands, with the number of the line that it is added at.
@@ -47,9 +38,26 @@ fn all_at(alloc: Global, number: u32, commands: Vec<Command>) -> Result<Vec<(u32
     Ok(all)
 }
 
-/// The commands that come before lines of the file of a router.
-fn commands_before(
+/// Adds the thing, if there is one.
+pub fn push_some<T>(things: &mut Vec<T>, thing: Option<T>) -> Result<(), Memory>
+where
+    T: Drop,
+    ensures { OnOk result (things.new.items ≡ things.old.items ++ cons_option thing []) }
+{
+    match thing {
+        Some(one) => {
+            things.push(one)?;
+            Ok(())
+        }
+        None => Ok(()),
+    }
+}
+
+/// The commands that come before lines of the file of a router. To the numbers it adds those of the
+/// old entries in the lists that get new ones.
+pub fn commands_before(
     alloc: Global,
+    numbers: &mut Vec<(u32, NewNumber)>,
     built: &Built,
     plan: &Plan,
     router: u32,
@@ -58,23 +66,23 @@ fn commands_before(
 ) -> Result<Vec<(u32, Command)>, Memory>
     requires plan { IsPlan built.now plan.now }
     requires few { length plan.now.changes.edits.items ≤ EDIT_LIMIT }
-    requires router { router < length built.now.net.routers }
     requires named { named.now ≡ named_lists built.now.net plan.now.changes.edits.items router }
-    ensures { IfOk result (λ commands. commands.items
+    ensures commands { IfOk result (λ commands. commands.items
         ≡ commands_before built.now.net own.now plan.now.changes.edits.items router) }
+    ensures numbers { IfOk result (λ _. numbers.new.items ≡ numbers.old.items ++
+        numbers_at built.now.net own.now plan.now.changes.edits.items router) }
 {
     let net = &built.net;
-    let new = commands_of_new_lists(alloc, net, &plan.changes, named)?;
+    let changes = &plan.changes;
+    let new = commands_of_new_lists(alloc, net, changes, named)?;
     let mut commands = all_at(alloc, own.process, new)?;
-    let packets = things_at(&plan.packet_lists, router);
-    push_packet_entries(alloc, &mut commands, net, own, &plan.changes, packets)?;
-    let routes = things_at(&plan.route_lists, router);
-    push_route_entries(alloc, &mut commands, net, own, &plan.changes, routes)?;
+    push_lists::<PacketList>(alloc, &mut commands, numbers, net, own, changes, router)?;
+    push_lists::<RouteList>(alloc, &mut commands, numbers, net, own, changes, router)?;
     Ok(commands)
 }
 
 /// The commands that come after lines of the file of a router.
-fn commands_after(
+pub fn commands_after(
     alloc: Global,
     built: &Built,
     plan: &Plan,
@@ -95,44 +103,4 @@ fn commands_after(
     let mut commands = all_at(alloc, own.process_last, process)?;
     push_group_commands(alloc, &mut commands, &plan.faces, named)?;
     Ok(commands)
-}
-
-impl Additions {
-    /// What the plan adds to the file of a router.
-    pub fn of(
-        alloc: Global,
-        built: &Built,
-        plan: &Plan,
-        router: u32,
-        own: &Places,
-    ) -> Result<Additions, Memory>
-        requires plan { IsPlan built.now plan.now }
-        requires few { length plan.now.changes.edits.items ≤ EDIT_LIMIT }
-        requires router { router < length built.now.net.routers }
-        ensures before { IfOk result (λ all. all.before.items
-            ≡ commands_before built.now.net own.now plan.now.changes.edits.items router) }
-        ensures numbers { IfOk result (λ all. all.numbers.items
-            ≡ numbers_at built.now.net own.now plan.now.changes.edits.items router) }
-        ensures after { IfOk result (λ all. all.after.items ≡ commands_after built.now.net
-            built.now.places own.now plan.now.changes.edits.items router) }
-    {
-        let lists = things_at(&plan.new_lists, router);
-        let named = named_lists(alloc, lists, plan.names[router as usize].slice())?;
-        let packets = things_at(&plan.packet_lists, router);
-        let routes = things_at(&plan.route_lists, router);
-        Ok(Additions {
-            before: commands_before(alloc, built, plan, router, own, &named)?,
-            numbers: new_numbers(alloc, &built.net, own, &plan.changes, packets, routes)?,
-            after: commands_after(alloc, built, plan, router, own, &named)?,
-        })
-    }
-
-    /// Whether nothing is added.
-    pub fn is_empty(&self) -> bool
-        ensures before { IsTrue result → self.now.before.items ≡ [] }
-        ensures numbers { IsTrue result → self.now.numbers.items ≡ [] }
-        ensures after { IsTrue result → self.now.after.items ≡ [] }
-    {
-        self.before.is_empty() && self.numbers.is_empty() && self.after.is_empty()
-    }
 }

@@ -4,8 +4,8 @@
 #![tactic(auto)]
 
 mod additions;
-mod edited_lists;
 mod entries;
+mod list_kinds;
 mod new_lists;
 mod patches;
 mod plans;

@@ -1,17 +1,18 @@
 //! New lists, and what binds them.
-ghost use Rattle.std.specs.Prelude.{false, ◌≡◌, ◌<◌, ◌≤◌, ◌+◌, ◌*◌, ◌^◌, ◌++◌, map, flat_map};
-ghost use Rattle.std.specs.Prelude.{length, All, IfOk, OnOk};
-ghost use Rattle.std.specs.List.{filter_map, zip, enumerate_from};
-ghost use Rattle.ios_words.specs.Printed.{all_routes};
 ghost use Rattle.edit_list.specs.After.{every_packet};
 ghost use Rattle.edit_space.specs.Working.{AreChanges};
+ghost use Rattle.ios_words.specs.Printed.{all_routes};
 ghost use Rattle.line_patcher.specs.NewListLines.{deny_prefix, permit_all, new_route_commands};
 ghost use Rattle.line_patcher.specs.NewListLines.{new_entry, deny_class, new_entries};
 ghost use Rattle.line_patcher.specs.NewListLines.{new_packet_commands, new_list_commands};
 ghost use Rattle.line_patcher.specs.NewListLines.{filter_command, group_command};
 ghost use Rattle.line_patcher.specs.Working.{face_of};
+ghost use Rattle.std.specs.List.{filter_map, zip, enumerate_from};
+ghost use Rattle.std.specs.Prelude.{false, ◌≡◌, ◌<◌, ◌≤◌, ◌+◌, ◌*◌, ◌^◌, ◌++◌, map, flat_map};
+ghost use Rattle.std.specs.Prelude.{length, All, IfOk, OnOk};
 
-use crate::entries::packet_text;
+use crate::additions::push_some;
+use crate::list_kinds::packet_text;
 use crate::printed::route_text;
 use arc_base::groups::things_at;
 use arc_base::limits::EDIT_LIMIT;
@@ -249,9 +250,7 @@ pub fn push_filter_commands(
         filter_map (λ n. filter_command net.now n.0 n.1) named.now) }
 {
     for (list, name) in named {
-        if let Some(command) = filter_command(alloc, net, *list, name.bytes())? {
-            commands.push(command)?;
-        }
+        push_some(commands, filter_command(alloc, net, *list, name.bytes())?)?;
     }
     Ok(())
 }
@@ -286,9 +285,7 @@ pub fn push_group_commands(
         filter_map (λ n. group_command faces.now n.0 n.1) named.now) }
 {
     for (list, name) in named {
-        if let Some(command) = group_command(alloc, faces, *list, name.bytes())? {
-            commands.push(command)?;
-        }
+        push_some(commands, group_command(alloc, faces, *list, name.bytes())?)?;
     }
     Ok(())
 }

@@ -1,16 +1,16 @@
 //! The files after edits.
-ghost use Rattle.std.specs.Prelude.{◌≡◌, ◌≤◌, ◌<◌, length, All, IfOk, slice_get, Some};
-ghost use Rattle.net_build.specs.Networks.{IsBuilt};
 ghost use Rattle.edit_list.specs.EditLists.{AreEdits};
 ghost use Rattle.edit_list.specs.Prices.{chosen_of};
-ghost use Rattle.ios_lines.specs.declared.line.Lines.{Lines};
-ghost use Rattle.ios_lines.specs.Lines.{AreLinesOf};
 ghost use Rattle.line_patcher.specs.Patches.{IsPatched, ArePatched};
-ghost use Rattle.line_patcher.specs.Working.{IsPlan};
+ghost use Rattle.line_patcher.specs.Working.{IsPlan, IsFileOf};
+ghost use Rattle.net_build.specs.Networks.{IsBuilt};
+ghost use Rattle.std.specs.Prelude.{◌≡◌, ◌≤◌, length, All, IfOk};
 
-use crate::additions::Additions;
+use crate::additions::{commands_after, commands_before};
+use crate::new_lists::named_lists;
 use crate::plans::Plan;
 use crate::texts::patched_text;
+use arc_base::groups::things_at;
 use arc_base::limits::{EDIT_LIMIT, EDITED_FILE_LIMIT};
 use arc_base::{List, Memory, Name};
 use edit_list::{Edit, chosen_edits};
@@ -28,23 +28,24 @@ fn patched_file(
 ) -> Result<Name, Memory>
     requires plan { IsPlan built.now plan.now }
     requires few { length plan.now.changes.edits.items ≤ EDIT_LIMIT }
-    requires router { router < length built.now.net.routers }
-    requires places { router < length built.now.places }
-    requires rows { router < length built.now.lines }
-    requires lines { (lines : Lines) → slice_get built.now.lines router ≡ Some lines →
-        AreLinesOf text.now lines }
+    requires file { IsFileOf built.now router text.now }
     requires bytes { length text.now ≤ EDITED_FILE_LIMIT }
     ensures { IfOk result (IsPatched built.now plan.now.changes.edits.items router text.now) }
 {
     let lines = &built.lines.slice()[router];
     let own = &built.places.slice()[router];
-    let all = Additions::of(alloc, built, plan, router as u32, own)?;
-    patched_text(alloc, text, lines, all)
+    let id = router as u32;
+    let lists = things_at(&plan.new_lists, id);
+    let named = named_lists(alloc, lists, plan.names[router].slice())?;
+    let mut numbers = Vec::new(alloc);
+    let before = commands_before(alloc, &mut numbers, built, plan, id, own, &named)?;
+    let after = commands_after(alloc, built, plan, id, own, &named)?;
+    patched_text(alloc, text, lines, before, numbers, after)
 }
 
 /// The router files after the chosen edits, in the order of the document. A file that no chosen
-/// edit concerns is given as it is. The time is linear in the bytes of the files and in what is
-/// added to them.
+/// edit concerns is given as it is. The time is linear in the bytes of the files, in what is added
+/// to them, and in the product of the numbers of routers and of lists.
 pub fn patch(
     alloc: Global,
     doc: &Document,

@@ -1,7 +1,7 @@
 //! The line of each command that edits write.
-ghost use Rattle.std.specs.Prelude.{◌≡◌, ◌++◌, OnOk};
 ghost use Rattle.ios_words.specs.Printed.{route_text};
 ghost use Rattle.line_patcher.specs.Written.{home, is_inert, line_of};
+ghost use Rattle.std.specs.Prelude.{◌≡◌, ◌++◌, OnOk};
 
 use arc_base::{Memory, Prefix};
 use ios_words::{BlockKind, Command, RouteText, print};

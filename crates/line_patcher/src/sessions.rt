@@ -1,8 +1,9 @@
 //! The commands that turn sessions.
-ghost use Rattle.std.specs.Prelude.{◌≡◌, ◌++◌, IfOk, OnOk};
-ghost use Rattle.std.specs.List.{filter_map};
 ghost use Rattle.line_patcher.specs.SessionLines.{session_command};
+ghost use Rattle.std.specs.List.{filter_map};
+ghost use Rattle.std.specs.Prelude.{◌≡◌, ◌++◌, IfOk, OnOk};
 
+use crate::additions::push_some;
 use arc_base::{Face, Memory, Name};
 use ios_words::Command;
 use net_model::{Network, Protocol};
@@ -38,9 +39,7 @@ pub fn push_session_commands(
         commands.old.items ++ filter_map (session_command net.now) faces.now) }
 {
     for face in faces {
-        if let Some(command) = session_command(alloc, net, Face(*face))? {
-            commands.push(command)?;
-        }
+        push_some(commands, session_command(alloc, net, Face(*face))?)?;
     }
     Ok(())
 }

@@ -1,14 +1,14 @@
 //! The text of a file with what is added to it. Only here do commands become bytes.
-ghost use Rattle.std.specs.Prelude.{◌≡◌, ◌<◌, ◌-◌, ◌^◌, ◌++◌, ◌∷◌, [], flat_map, length, map, All};
-ghost use Rattle.std.specs.Prelude.{IfOk, OnOk};
-ghost use Rattle.ios_lines.specs.Lines.{AreLinesOf};
 ghost use Rattle.arc_base.specs.Numbered.{of_number, IsTableOf};
+ghost use Rattle.ios_lines.specs.Lines.{AreLinesOf};
 ghost use Rattle.line_patcher.specs.Patches.{end_of, line_end, row_bytes, ended, following};
 ghost use Rattle.line_patcher.specs.Patches.{patched_text};
 ghost use Rattle.line_patcher.specs.Working.{LiesWithin, row_around};
 ghost use Rattle.line_patcher.specs.Written.{line_of, lines_at};
+ghost use Rattle.std.specs.Prelude.{◌≡◌, ◌<◌, ◌-◌, ◌^◌, ◌++◌, ◌∷◌, [], flat_map, length, map, All};
+ghost use Rattle.std.specs.Prelude.{IfOk, OnOk, IsTrue};
 
-use crate::additions::{Additions, NewNumber};
+use crate::additions::NewNumber;
 use crate::printed::push_line;
 use arc_base::groups::{Group, add, empty_groups, grouped, things_at};
 use arc_base::{Memory, Name, push_number};
@@ -176,29 +176,39 @@ fn push_row(
     push_following(alloc, new, end, row.end, things_at(&table.after, number))
 }
 
+/// Whether nothing is added to a file.
+fn is_nothing(
+    before: &[(u32, Command)],
+    numbers: &[(u32, NewNumber)],
+    after: &[(u32, Command)],
+) -> bool
+    ensures before { IsTrue result → before.now ≡ [] }
+    ensures numbers { IsTrue result → numbers.now ≡ [] }
+    ensures after { IsTrue result → after.now ≡ [] }
+{
+    before.is_empty() && numbers.is_empty() && after.is_empty()
+}
+
 /// The text of a file, of which these are the lines, with what is added to it. A file to which
 /// nothing is added is copied as it is.
 pub fn patched_text(
     alloc: Global,
     text: &[u8],
     lines: &Lines,
-    all: Additions,
+    before: Vec<(u32, Command)>,
+    numbers: Vec<(u32, NewNumber)>,
+    after: Vec<(u32, Command)>,
 ) -> Result<Name, Memory>
     requires few { length text.now < 2 ^ 32 - 1 }
     requires lines { AreLinesOf text.now lines.now }
     ensures { IfOk result (λ new. new ≡ patched_text text.now lines.now
-        (lines_at all.before.items) all.numbers.items (lines_at all.after.items)) }
+        (lines_at before.items) numbers.items (lines_at after.items)) }
 {
-    if all.is_empty() {
+    if is_nothing(&before, &numbers, &after) {
         return Name::make(alloc, text);
     }
     let rows = lines.rows.slice();
     let count = rows.len() as u32 + 1;
-    let Additions {
-        before,
-        numbers,
-        after,
-    } = all;
     let table = Table {
         before: commands_at(alloc, count, before)?,
         numbers: grouped(alloc, count, &numbers)?,

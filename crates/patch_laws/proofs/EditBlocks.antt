@@ -55,7 +55,8 @@ bare-written block [] = refl
 bare-written block (w ∷ ws) = ap (λ (l : List FileCommand). plainly w ∷ l) (bare-written block ws)
 
 -- commands of which only the last one grows
-pub ends-grown : (n : ℕ) (g : List FileCommand) (last : FileCommand) (h : FileCommand → List FileCommand) (tail : List FileCommand) → Rising n g → Contains g last → ((d : FileCommand) → Contains g d → d.line ≤ last.line) →
+pub ends-grown : (n : ℕ) (g : List FileCommand) (last : FileCommand) (h : FileCommand → List FileCommand) (tail : List FileCommand) → Rising n g → Contains g last →
+    ((d : FileCommand) → Contains g d → d.line ≤ last.line) →
     ((c : FileCommand) → Contains g c → c.line ≢ last.line → map bare (h c) ≡ bare c ∷ []) → map bare (h last) ≡ bare last ∷ tail → map bare (flat_map h g) ≡ map bare g ++ tail
 ends-grown n [] last h tail up has latest others end = absurd (Contains-none last has)
 ends-grown n (c ∷ []) last h tail up has latest others end =
@@ -64,8 +65,10 @@ ends-grown n (c ∷ []) last h tail up has latest others end =
 ends-grown n (c ∷ d ∷ g) last h tail up has latest others end =
     let next : c.line + 1 ≤ d.line = up.1.0 in
     let low : d.line ≤ last.line = latest d (Contains-tail c d (d ∷ g) (Contains-head d g)) in
-    let deeper : Contains (d ∷ g) last = ⊎_elim (λ (here : c ≡ last). absurd (let at : c.line ≡ last.line = ap (λ (x : FileCommand). x.line) here in omega (arith, next, low, at))) (λ later. later) (Contains-cases c last (d ∷ g) has) in
-    let rest = ends-grown (c.line + 1) (d ∷ g) last h tail up.1 deeper (λ x there. latest x (Contains-tail c x (d ∷ g) there)) (λ x there other. others x (Contains-tail c x (d ∷ g) there) other) end in
+    let deeper : Contains (d ∷ g) last = ⊎_elim (λ (here : c ≡ last). absurd (let at : c.line ≡ last.line = ap (λ (x : FileCommand). x.line) here in omega (arith, next, low, at)))
+    (λ later. later) (Contains-cases c last (d ∷ g) has) in
+    let rest = ends-grown (c.line + 1) (d ∷ g) last h tail up.1 deeper (λ x there. latest x (Contains-tail c x (d ∷ g) there))
+    (λ x there other. others x (Contains-tail c x (d ∷ g) there) other) end in
     let one : map bare (h c) ≡ bare c ∷ [] = others c (Contains-head c (d ∷ g)) (λ same. omega (arith, next, low, same)) in
     map-append bare (h c) (flat_map h (d ∷ g)) ∙ (λ i. one i ++ rest i)
 
@@ -116,12 +119,16 @@ known-group cs q known =
     let (c, has, same) = from_map part_of cs q (from-distinct (map part_of cs) q known) in
     group-of cs c q has same
 
+pub heads-same : (x y : FileCommand) (xs ys : List FileCommand) → x ∷ xs ≡ y ∷ ys → x ≡ y
+heads-same x y xs ys e = cc
+
 pub members-of : (cs : List FileCommand) (q : Part) (c : FileCommand) → Contains (members cs q) c → Contains cs c × (part_of c ≡ q)
 members-of cs q c there =
     let (among, same) = from_filter (λ (d : FileCommand). is_same q (part_of d)) cs c there in
     (among, sym ((is_same-Decides q (part_of c)).0 same))
 
-module _ (net : Network) (places : List Places) (chosen : List Edit) (router : ℕ) (text : List ℕ) (lines : Lines) (cs : List FileCommand) (f : IsEditedFile net places chosen router text lines cs) where
+module _ (net : Network) (places : List Places) (chosen : List Edit) (router : ℕ) (text : List ℕ) (lines : Lines) (cs : List FileCommand)
+    (f : IsEditedFile net places chosen router text lines cs) where
   abbrev grown_at : FileCommand → List FileCommand
   grown_at c = grow_at net places chosen router text lines cs c
 
@@ -137,7 +144,8 @@ module _ (net : Network) (places : List Places) (chosen : List Edit) (router : �
     pub rest : List FileCommand
     pub is : grown_at c ≡ first ∷ rest
     pub block : ℕ
-    pub says : ((is_entry first.command ≡ true) × (is_entry c.command ≡ true) × (part_in block first.command ≡ part_in block c.command)) ⊎ (first.command ≡ new_at net places chosen router text lines cs c)
+    pub says : ((is_entry first.command ≡ true) × (is_entry c.command ≡ true) × (part_in block first.command ≡ part_in block c.command)) ⊎ (first.command ≡ new_at net places
+        chosen router text lines cs c)
 
   pub grown-first : (c : FileCommand) → Contains cs c → GrownFirst c
   grown-first c has = by (entries_at net own_at chosen router c) refl
@@ -146,14 +154,16 @@ module _ (net : Network) (places : List Places) (chosen : List Edit) (router : �
       by [] is = record {
         first = says_other c (new_at net places chosen router text lines cs c);
         rest = map (in_block c.block) (ends_at c);
-        is = grow-is net places chosen router text lines cs c ∙ ap (λ (l : List Written). map (in_block c.block) l ++ (says_other c (new_at net places chosen router text lines cs c) ∷ map (in_block c.block) (ends_at c))) is;
+        is = grow-is net places chosen router text lines cs c
+            ∙ ap (λ (l : List Written). map (in_block c.block) l ++ (says_other c (new_at net places chosen router text lines cs c) ∷ map (in_block c.block) (ends_at c))) is;
         block = c.block;
         says = inr refl;
       }
       by (w ∷ ws) is = record {
         first = in_block c.block w;
         rest = map (in_block c.block) ws ++ (says_other c (new_at net places chosen router text lines cs c) ∷ map (in_block c.block) (ends_at c));
-        is = grow-is net places chosen router text lines cs c ∙ ap (λ (l : List Written). map (in_block c.block) l ++ (says_other c (new_at net places chosen router text lines cs c) ∷ map (in_block c.block) (ends_at c))) is;
+        is = grow-is net places chosen router text lines cs c
+            ∙ ap (λ (l : List Written). map (in_block c.block) l ++ (says_other c (new_at net places chosen router text lines cs c) ∷ map (in_block c.block) (ends_at c))) is;
         block = c.block;
         says = (let e = entry-at net places chosen router text lines cs f c w has (subst (λ (l : List Written). Contains l w) (sym is) (Contains-head w ws)) in inl (e.is, e.entry, e.part));
       }
@@ -164,9 +174,6 @@ module _ (net : Network) (places : List Places) (chosen : List Edit) (router : �
 
     same-first : (p : Part) (c d : FileCommand) (more : List FileCommand) → part_of c ≡ p → part_of c ≡ q → members cs p ≡ d ∷ more → first ≡ d
     same-first p c d more one two other = heads-same first d rest more (sym is ∙ ap (members cs) (sym two ∙ one) ∙ other)
-      where
-        heads-same : (x y : FileCommand) (xs ys : List FileCommand) → x ∷ xs ≡ y ∷ ys → x ≡ y
-        heads-same x y xs ys e = cc
 
     module _ (none : list_begun first.command ≡ None) where
       no-list : (c : FileCommand) → part_of c ≡ q → (p : Part) (d : FileCommand) (more : List FileCommand) → part_of c ≡ p → members cs p ≡ d ∷ more → (x : _) → list_begun d.command ≡ Some x → ⊥
@@ -245,7 +252,8 @@ module _ (net : Network) (places : List Places) (chosen : List Edit) (router : �
           by (w ∷ ws) e = absurd (at-end w (end-at net places chosen router text lines cs f c w (members-of cs q c there).0 (subst (λ (l : List Written). Contains l w) (sym e) (Contains-head w ws))))
 
       last-there : Contains (members cs q) h.last
-      last-there = Contains-filter (λ (d : FileCommand). is_same q (part_of d)) cs h.last h.block.last_among (ap (is_same q) (block-is h.last h.block.last_among h.block.last_block ∙ sym part-is) ∙ is-self q)
+      last-there = Contains-filter (λ (d : FileCommand). is_same q (part_of d)) cs h.last h.block.last_among
+          (ap (is_same q) (block-is h.last h.block.last_among h.block.last_block ∙ sym part-is) ∙ is-self q)
 
       last-ends : ends_at h.last ≡ map written_of (process_commands net chosen router)
       last-ends =
@@ -262,13 +270,15 @@ module _ (net : Network) (places : List Places) (chosen : List Edit) (router : �
       pub process-shape : map bare (flat_map grown_at (members cs q)) ≡ map bare (members cs q) ++ map unplaced (process_commands net chosen router)
       process-shape =
           let none = no-begun first.command heads in
-          ends-grown 1 (members cs q) h.last grown_at (map unplaced (process_commands net chosen router)) (rising-filter (λ (d : FileCommand). is_same q (part_of d)) 1 cs (rising (text_lines text) cs f.stand)) last-there
+          ends-grown 1 (members cs q) h.last grown_at (map unplaced (process_commands net chosen router))
+          (rising-filter (λ (d : FileCommand). is_same q (part_of d)) 1 cs (rising (text_lines text) cs f.stand)) last-there
           (λ d there. h.block.latest d (members-of cs q d there).0 ((members-of cs q d there).1 ∙ part-is))
           (λ c there other. bare-plain none c there ∙ ap (λ (l : List Written). bare c ∷ map plainly l) (other-ends c there other))
           (bare-plain none h.last last-there ∙ ap (λ (l : List Written). bare h.last ∷ map plainly l) last-ends ∙
           ap (λ (l : List FileCommand). bare h.last ∷ l) (plainly-written (process_commands net chosen router)))
 
-  pub processes : (q : Part) → Contains (distinct (map part_of cs)) q → process_of (map bare (flat_map grown_at (members cs q))) ≡ map (process_with net chosen router) (process_of (map bare (members cs q)))
+  pub processes : (q : Part) → Contains (distinct (map part_of cs)) q →
+      process_of (map bare (flat_map grown_at (members cs q))) ≡ map (process_with net chosen router) (process_of (map bare (members cs q)))
   processes q known =
       let g = known-group cs q known in
       ⊎_elim
@@ -283,5 +293,6 @@ module _ (net : Network) (places : List Places) (chosen : List Edit) (router : �
       n.says in
       ap (λ (l : List FileCommand). process_of (map bare (flat_map grown_at l))) g.is ∙ ap (λ (l : List FileCommand). process_of (map bare (l ++ flat_map grown_at g.rest))) n.is ∙
       no-process n.first.command (bare n.first) (map bare (n.rest ++ flat_map grown_at g.rest)) quiet ∙
-      ap (map (process_with net chosen router)) (sym (no-process g.first.command (bare g.first) (map bare g.rest) other)) ∙ ap (λ (l : List FileCommand). map (process_with net chosen router) (process_of (map bare l))) (sym g.is))
+      ap (map (process_with net chosen router)) (sym (no-process g.first.command (bare g.first) (map bare g.rest) other))
+      ∙ ap (λ (l : List FileCommand). map (process_with net chosen router) (process_of (map bare l))) (sym g.is))
       (cases_Bool (heads_process g.first.command))

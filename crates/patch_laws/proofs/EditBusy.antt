@@ -1,10 +1,11 @@
 -- Whatever edits put into a file stands at a line of one of its commands.
-use Rattle.std.proofs.Common.{◌≡◌, ◌≢◌, ℕ, ◌+◌, Bool, true, false, if◌then◌else◌, Some, List, [], ◌∷◌, length, map, sym, ap, subst, ◌∙◌, ◌⊎◌, inl, inr, ⊎_elim, Contains}
+use Rattle.std.proofs.Common.{◌≡◌, ◌≢◌, ℕ, suc, ◌+◌, ◌*◌, Bool, true, false, if◌then◌else◌, Some, List, [], ◌∷◌, length, map, refl, sym, ap, subst, ◌∙◌, ◌⊎◌, inl, inr, ⊎_elim, Contains, arith}
 use Rattle.std.specs.Prelude.{slice_get, option_map, unwrap_or}
 use Rattle.std.specs.List.{flat_map, enumerate_from}
 use Rattle.std.proofs.lemmas.Option.{none-some, same_Some}
 use Rattle.std.proofs.lemmas.List.Elements.{Contains-append_cases}
-use Rattle.arc_base.proofs.Items.{Contains-cases, Contains-none, Contains-head, Contains-tail, from_map, from_piece}
+use Rattle.arc_base.proofs.Items.{Contains-cases, Contains-none, Contains-head, from_map, from_piece}
+use Rattle.net_model.proofs.Readings.{item_at_place}
 use Rattle.net_model.specs.declared.lists.PacketList.{PacketList}
 use Rattle.net_model.specs.declared.lists.RouteList.{RouteList}
 use Rattle.net_model.specs.declared.rows.Network.{Network}
@@ -38,6 +39,7 @@ use Rattle.patch_laws.specs.EditFiles.{HasFace, HasPacketList, HasRouteList, IsE
 use Rattle.patch_laws.specs.EditSiteLaws.{own_places}
 use Rattle.patch_laws.specs.FaceBlocks.{HasFaceBlock}
 use Rattle.patch_laws.proofs.EditLists.{list-group, entry-command, first-entry, edited-packets, edited-routes, packets-have, routes-have}
+use Rattle.patch_laws.proofs.EditRows.{mapped-at}
 use Rattle.patch_laws.proofs.FaceBlocks.{face-blocks}
 
 -- one of the commands stands at this line
@@ -53,37 +55,63 @@ first-command cs list there some =
     let c = entry-command cs list (list-group cs list there) f.first (subst (λ (es : List (Given Command)). Contains es f.first) (sym f.is) (Contains-head f.first f.more)) in
     record { command = c.command; among = c.among; line = f.line ∙ sym c.line }
 
--- an item of some with their places is one of them
-pub of-enumerated : {X : Type 0} (n : ℕ) (xs : List X) (item : ℕ × X) → Contains (enumerate_from n xs) item → Contains xs item.1
-of-enumerated n [] item there = absurd (Contains-none item there)
-of-enumerated {X} n (x ∷ xs) item there = ⊎_elim
-    (λ same. subst (λ (y : X). Contains (x ∷ xs) y) (ap (λ (p : ℕ × X). p.1) same) (Contains-head x xs))
-    (λ more. Contains-tail x item.1 xs (of-enumerated (n + 1) xs item more))
+-- where an entry with its place is
+pub at-enumerated : {X : Type 0} (n : ℕ) (xs : List X) (item : ℕ × X) → Contains (enumerate_from n xs) item → (k : ℕ) × (item.0 ≡ n + k) × (slice_get xs k ≡ Some item.1)
+at-enumerated n [] item there = absurd (Contains-none item there)
+at-enumerated n (x ∷ xs) item there = ⊎_elim
+    (λ same. (0, ap (λ p. p.0) (sym same) ∙ omega arith, ap (λ p. Some (p.1)) same))
+    (λ more. let (k, number, at) = at-enumerated (n + 1) xs item more in (suc k, number ∙ omega arith, at))
     (Contains-cases (n, x) item (enumerate_from (n + 1) xs) there)
 
--- a new number is that of an entry of a list
+-- a new number of a list's entry
+pub record NumberAt (list : ListText) (word step count : ℕ) (item : ℕ × NewNumber) : Type 0 where
+  pub numbered : list.numbered ≡ true
+  pub place : ℕ
+  pub entry : Given Command
+  pub at : slice_get list.entries place ≡ Some entry
+  pub line : item.0 ≡ entry.line
+  pub new : item.1 ≡ record { word = word; number = step * (count + (1 + place)) }
+
+pub number-at : (list : ListText) (word step count : ℕ) (item : ℕ × NewNumber) → Contains (new_numbers (list_place list) word step count) item → NumberAt list word step count item
+number-at list word step count item among = by list.numbered refl among
+  where
+    by : (b : Bool) → list.numbered ≡ b → Contains (if b then map (new_number word step count) (enumerate_from 1 (map (λ (g : Given Command). g.line) list.entries)) else []) item →
+        NumberAt list word step count item
+    by false e has = absurd (Contains-none item has)
+    by true e has =
+        let (entry, in_places, is) = from_map (new_number word step count) (enumerate_from 1 (map (λ (g : Given Command). g.line) list.entries)) item has in
+        let (k, number, at) = at-enumerated 1 (map (λ (g : Given Command). g.line) list.entries) entry in_places in
+        let (g, here, line) = mapped-at (λ (x : Given Command). x.line) list.entries k entry.1 at in
+        record {
+          numbered = e;
+          place = k;
+          entry = g;
+          at = here;
+          line = ap (λ (p : ℕ × NewNumber). p.0) (sym is) ∙ sym line;
+          new = ap (λ (p : ℕ × NewNumber). p.1) (sym is) ∙ (λ i. record { word = word; number = step * (count + number i) });
+        }
+
+-- a new number is that of an entry of a list with numbers
 pub record NumberItem (cs : List FileCommand) (item : ℕ × NewNumber) : Type 0 where
   pub list : ListText
   pub among : Contains (config_of cs).lists list
+  pub numbered : list.numbered ≡ true
   pub entry : Given Command
   pub has : Contains list.entries entry
   pub line : item.0 ≡ entry.line
 
-numbered-entry : (cs : List FileCommand) (list : ListText) → Contains (config_of cs).lists list → (word step count : ℕ) (item : ℕ × NewNumber) → Contains (new_numbers (list_place list) word step count) item → NumberItem cs item
-numbered-entry cs list there word step count item among = by list.numbered among
-  where
-    by : (b : Bool) → Contains (if b then map (new_number word step count) (enumerate_from 1 (map (λ (g : Given Command). g.line) list.entries)) else []) item → NumberItem cs item
-    by false has = absurd (Contains-none item has)
-    by true has =
-        let (entry, in_places, is) = from_map (new_number word step count) (enumerate_from 1 (map (λ (g : Given Command). g.line) list.entries)) item has in
-        let (g, in_entries, line) = from_map (λ (g : Given Command). g.line) list.entries entry.1 (of-enumerated 1 (map (λ (g : Given Command). g.line) list.entries) entry in_places) in
-        record { list = list; among = there; entry = g; has = in_entries; line = ap (λ (p : ℕ × NewNumber). p.0) (sym is) ∙ sym line }
+numbered-entry : (cs : List FileCommand) (list : ListText) → Contains (config_of cs).lists list → (word step count : ℕ) (item : ℕ × NewNumber) →
+    Contains (new_numbers (list_place list) word step count) item → NumberItem cs item
+numbered-entry cs list there word step count item among =
+    let n = number-at list word step count item among in
+    record { list = list; among = there; numbered = n.numbered; entry = n.entry; has = item_at_place list.entries n.place n.entry n.at; line = n.line }
 
 -- things that all stand at one number
 pub at-one : {X Y : Type 0} (number : ℕ) (f : X → Y) (xs : List X) (item : ℕ × Y) → Contains (map (λ (x : X). (number, f x)) xs) item → item.0 ≡ number
 at-one {X} {Y} number f xs item there = let (x, among, is) = from_map (λ (x : X). (number, f x)) xs item there in ap (λ (p : ℕ × Y). p.0) (sym is)
 
-module _ (net : Network) (places : List Places) (chosen : List Edit) (router : ℕ) (text : List ℕ) (lines : Lines) (cs : List FileCommand) (file : IsEditedFile net places chosen router text lines cs) where
+module _ (net : Network) (places : List Places) (chosen : List Edit) (router : ℕ) (text : List ℕ) (lines : Lines) (cs : List FileCommand)
+    (file : IsEditedFile net places chosen router text lines cs) where
   abbrev own : Places
   own = own_places cs
 
@@ -108,14 +136,17 @@ module _ (net : Network) (places : List Places) (chosen : List Edit) (router : �
       (λ packets.
       let (id, among, has) = from_piece (packet_list_numbers net own chosen) (edited_packet_lists net chosen router) item packets in
       let (row, at, h) = packets-of id among in
-      let here = subst (λ (l : List (ℕ × NewNumber)). Contains l item) (packets-have net cs (λ (list : PacketList) (place : ListPlace). new_numbers place 0 10 (length (list_classes chosen id))) id row h at) has in
+      let here = subst (λ (l : List (ℕ × NewNumber)). Contains l item)
+      (packets-have net cs (λ (list : PacketList) (place : ListPlace). new_numbers place 0 10 (length (list_classes chosen id))) id row h at) has in
       numbered-entry cs h.list h.among 0 10 (length (list_classes chosen id)) item here)
       (λ routes.
       let (id, among, has) = from_piece (route_list_numbers net own chosen) (edited_route_lists net chosen router) item routes in
       let (row, at, h) = routes-of id among in
-      let here = subst (λ (l : List (ℕ × NewNumber)). Contains l item) (routes-have net cs (λ (list : RouteList) (place : ListPlace). new_numbers place 4 5 (length (list_prefixes chosen id))) id row h at) has in
+      let here = subst (λ (l : List (ℕ × NewNumber)). Contains l item)
+      (routes-have net cs (λ (list : RouteList) (place : ListPlace). new_numbers place 4 5 (length (list_prefixes chosen id))) id row h at) has in
       numbered-entry cs h.list h.among 4 5 (length (list_prefixes chosen id)) item here)
-      (Contains-append_cases (flat_map (packet_list_numbers net own chosen) (edited_packet_lists net chosen router)) (flat_map (route_list_numbers net own chosen) (edited_route_lists net chosen router)) item there)
+      (Contains-append_cases (flat_map (packet_list_numbers net own chosen) (edited_packet_lists net chosen router))
+      (flat_map (route_list_numbers net own chosen) (edited_route_lists net chosen router)) item there)
 
   pub number-command : (item : ℕ × NewNumber) → Contains (numbers_at net own chosen router) item → AtCommand cs item.0
   number-command item there =
@@ -149,7 +180,8 @@ module _ (net : Network) (places : List Places) (chosen : List Edit) (router : �
           record { face = face; name = name; named = among; has = h; block = b; line = ap (λ (p : ℕ × Command). p.0) both ∙ b.last_line; says = ap (λ (p : ℕ × Command). p.1) both }
 
   -- what comes after a line is of the process, or is a binding
-  pub after-item : (item : ℕ × Command) → Contains (commands_after net places own chosen router) item → ((item.0 ≡ own.process_last) × Contains (process_commands net chosen router) item.1) ⊎ AtFace item
+  pub after-item : (item : ℕ × Command) → Contains (commands_after net places own chosen router) item →
+      ((item.0 ≡ own.process_last) × Contains (process_commands net chosen router) item.1) ⊎ AtFace item
   after-item item there = ⊎_elim
       (λ process.
       let (command, among, is) = from_map (λ (k : Command). (own.process_last, k)) (process_commands net chosen router) item process in

@@ -24,7 +24,8 @@ pub record AreSaid (chosen : List Edit) : Type 0 where
 pub edits-said : (net : Network) (doc : Document) (list : List Edit) (flags : List Bool) → AreEdits net doc list → AreSaid (chosen_of list flags)
 edits-said net doc list flags are = record {
   lists = λ id class there. All-contains (λ (c : Class). IsTrue (is_writable c.service)) (list_classes (chosen_of list flags) id) class (chosen_classes_are_writable net doc list flags are id).0 there;
-  new = λ face class there. All-contains (λ (c : Class). IsTrue (is_writable c.service)) (new_classes (chosen_of list flags) face) class (chosen_classes_are_writable net doc list flags are face).1 there;
+  new = λ face class there. All-contains (λ (c : Class). IsTrue (is_writable c.service)) (new_classes (chosen_of list flags) face) class
+      (chosen_classes_are_writable net doc list flags are face).1 there;
 }
 
 -- edits that turn sessions put nothing into lists

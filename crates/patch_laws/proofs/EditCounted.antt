@@ -1,5 +1,6 @@
 -- Numbers of entries that are the multiples of a step, one after the other.
-use Rattle.std.proofs.Common.{◌≡◌, ◌≢◌, ℕ, suc, ◌+◌, ◌*◌, ◌<◌, ◌⊎◌, inl, inr, Bool, true, false, if◌then◌else◌, Option, Some, None, List, [], ◌∷◌, ◌++◌, length, map, refl, sym, ap, subst, ◌∙◌, arith, Contains, append_assoc}
+use Rattle.std.proofs.Common.{◌≡◌, ◌≢◌, ℕ, suc, ◌+◌, ◌*◌, ◌<◌, ◌⊎◌, inl, inr, Bool, true, false, if◌then◌else◌, Option, Some, None, List, [], ◌∷◌, ◌++◌, length, map, refl, sym, ap, subst}
+use Rattle.std.proofs.Common.{◌∙◌, arith, Contains, append_assoc}
 use Rattle.std.specs.Prelude.{slice_get}
 use Rattle.std.specs.List.{cons_option, enumerate_from, filter_map, flat_map}
 use Rattle.std.proofs.lemmas.Bool.{lt-ltb, false≢true, eq-eqb, ne_eqb}
@@ -91,34 +92,39 @@ counts-append step a b (x ∷ xs) ys is one two = (one.0, counts-append step (a 
 
 -- commands that each grow by numbers before their own
 module _ (h : FileCommand → List FileCommand) (new own : FileCommand → List (Option ℕ)) where
-  rest-numbers : (g : List FileCommand) → ((c : FileCommand) → Contains g c → numbers (h c) ≡ new c ++ own c) → ((c : FileCommand) → Contains g c → new c ≡ []) → numbers (flat_map h g) ≡ flat_map own g
+  rest-numbers : (g : List FileCommand) → ((c : FileCommand) → Contains g c → numbers (h c) ≡ new c ++ own c) → ((c : FileCommand) → Contains g c → new c ≡ []) →
+      numbers (flat_map h g) ≡ flat_map own g
   rest-numbers [] each none = refl
   rest-numbers (c ∷ g) each none =
       let one : numbers (h c) ≡ own c = each c (Contains-head c g) ∙ ap (λ (l : List (Option ℕ)). l ++ own c) (none c (Contains-head c g)) in
       let rest = rest-numbers g (λ d there. each d (Contains-tail c d g there)) (λ d there. none d (Contains-tail c d g there)) in
       numbers-append (h c) (flat_map h g) ∙ (λ i. one i ++ rest i)
 
-  pub front-numbers : (n : ℕ) (g : List FileCommand) (first : FileCommand) → Rising n g → Contains g first → ((c : FileCommand) → Contains g c → numbers (h c) ≡ new c ++ own c) → ((c : FileCommand) → Contains g c → c.line ≢ first.line → new c ≡ []) →
+  pub front-numbers : (n : ℕ) (g : List FileCommand) (first : FileCommand) → Rising n g → Contains g first → ((c : FileCommand) → Contains g c → numbers (h c) ≡ new c ++ own c) →
+      ((c : FileCommand) → Contains g c → c.line ≢ first.line → new c ≡ []) →
       ((c : FileCommand) → Contains g c → c.line < first.line → own c ≡ []) → numbers (flat_map h g) ≡ new first ++ flat_map own g
   front-numbers n [] first up has each none before = absurd (Contains-none first has)
   front-numbers n (c ∷ g) first up has each none before =
       by (Contains-cases c first g has)
-      (λ later. front-numbers (c.line + 1) g first up.1 later (λ d there. each d (Contains-tail c d g there)) (λ d there. none d (Contains-tail c d g there)) (λ d there. before d (Contains-tail c d g there)))
+      (λ later. front-numbers (c.line + 1) g first up.1 later (λ d there. each d (Contains-tail c d g there)) (λ d there. none d (Contains-tail c d g there))
+      (λ d there. before d (Contains-tail c d g there)))
     where
       by : (c ≡ first) ⊎ Contains g first → (Contains g first → numbers (flat_map h g) ≡ new first ++ flat_map own g) → numbers (flat_map h (c ∷ g)) ≡ new first ++ flat_map own (c ∷ g)
       by (inl here) deeper =
           let one : numbers (h c) ≡ new first ++ own c = each c (Contains-head c g) ∙ ap (λ (d : FileCommand). new d ++ own c) here in
           let rest = rest-numbers g (λ d there. each d (Contains-tail c d g there))
-          (λ d there. none d (Contains-tail c d g there) (λ same. (let over = rising-low (c.line + 1) g d up.1 there in let at : c.line ≡ first.line = ap (λ (x : FileCommand). x.line) here in omega (arith, over, at, same)))) in
+          (λ d there. none d (Contains-tail c d g there)
+          (λ same. (let over = rising-low (c.line + 1) g d up.1 there in let at : c.line ≡ first.line = ap (λ (x : FileCommand). x.line) here in omega (arith, over, at, same)))) in
           numbers-append (h c) (flat_map h g) ∙ (λ i. one i ++ rest i) ∙ append_assoc (new first) (own c) (flat_map own g)
       by (inr later) deeper =
           let over = rising-low (c.line + 1) g first up.1 later in
           let quiet : own c ≡ [] = before c (Contains-head c g) (omega (arith, over)) in
           let one : numbers (h c) ≡ [] = each c (Contains-head c g) ∙ ap (λ (l : List (Option ℕ)). l ++ own c) (none c (Contains-head c g) (λ same. omega (arith, over, same))) ∙ quiet in
-          numbers-append (h c) (flat_map h g) ∙ ap (λ (l : List (Option ℕ)). l ++ numbers (flat_map h g)) one ∙ deeper later ∙ ap (λ (l : List (Option ℕ)). new first ++ (l ++ flat_map own g)) (sym quiet)
+          numbers-append (h c) (flat_map h g) ∙ ap (λ (l : List (Option ℕ)). l ++ numbers (flat_map h g)) one ∙ deeper later
+          ∙ ap (λ (l : List (Option ℕ)). new first ++ (l ++ flat_map own g)) (sym quiet)
 
 -- a command that is no entry is none with another number
-entry-with : (k : Command) (new : List NewNumber) → is_entry (with_number k new) ≡ is_entry k
+pub entry-with : (k : Command) (new : List NewNumber) → is_entry (with_number k new) ≡ is_entry k
 entry-with k [] = refl
 entry-with (commands.Entry order entry) (n ∷ more) = refl
 entry-with (commands.PrefixLine name order entry) (n ∷ more) = refl
@@ -143,7 +149,8 @@ module _ (word step count : ℕ) (given_new : FileCommand → List NewNumber) wh
   renewed c = alone (with_number c.command (given_new c))
 
   -- entries with those numbers count on
-  pub renumbered : (n k : ℕ) (g : List FileCommand) → Rising n g → ((c : FileCommand) → Contains g c → is_entry c.command ≡ true → given_new c ≡ of_number c.line (table word step count k (entries g))) →
+  pub renumbered : (n k : ℕ) (g : List FileCommand) → Rising n g →
+      ((c : FileCommand) → Contains g c → is_entry c.command ≡ true → given_new c ≡ of_number c.line (table word step count k (entries g))) →
       ((c : FileCommand) → Contains g c → is_entry c.command ≡ true → (m : ℕ) × (entry_number c.command ≡ Some m)) → Counts step (count + k) (flat_map renewed g)
   renumbered n k [] up are has = tt
   renumbered n k (c ∷ g) up are has = by (is_entry c.command) refl (λ from now. renumbered (c.line + 1) from g up.1 now (λ d there is. has d (Contains-tail c d g there) is))
@@ -154,16 +161,21 @@ module _ (word step count : ℕ) (given_new : FileCommand → List NewNumber) wh
       number : NewNumber
       number = record { word = word; number = step * (count + k) }
 
-      by : (b : Bool) → is_entry c.command ≡ b → ((from : ℕ) → ((d : FileCommand) → Contains g d → is_entry d.command ≡ true → given_new d ≡ of_number d.line (table word step count from (entries g))) → Counts step (count + from) (flat_map renewed g)) →
+      by : (b : Bool) → is_entry c.command ≡ b →
+          ((from : ℕ) → ((d : FileCommand) → Contains g d → is_entry d.command ≡ true → given_new d ≡ of_number d.line (table word step count from (entries g))) →
+          Counts step (count + from) (flat_map renewed g)) →
           Counts step (count + k) (flat_map renewed (c ∷ g))
       by true entry deeper =
           let here : entries (c ∷ g) ≡ given c ∷ entries g = ap (λ (b : Bool). cons_option (if b then Some (given c) else None) (entries g)) entry in
           let mine : given_new c ≡ number ∷ of_number c.line others =
-          are c (Contains-head c g) entry ∙ ap (λ (es : List (Given Command)). of_number c.line (table word step count k es)) here ∙ ap (λ (b : Bool). cons_option (if b then Some number else None) (of_number c.line others)) (eq-eqb c.line c.line refl) in
+          are c (Contains-head c g) entry ∙ ap (λ (es : List (Given Command)). of_number c.line (table word step count k es)) here
+          ∙ ap (λ (b : Bool). cons_option (if b then Some number else None) (of_number c.line others)) (eq-eqb c.line c.line refl) in
           let (m, old) = has c (Contains-head c g) entry in
-          let one : renewed c ≡ Some (step * (count + k)) ∷ [] = ap (λ (ns : List NewNumber). alone (with_number c.command ns)) mine ∙ some-alone c.command m number (of_number c.line others) entry old in
+          let one : renewed c ≡ Some (step * (count + k)) ∷ [] = ap (λ (ns : List NewNumber). alone (with_number c.command ns)) mine
+          ∙ some-alone c.command m number (of_number c.line others) entry old in
           let rest = deeper (k + 1) (λ d there is. are d (Contains-tail c d g there) is ∙ ap (λ (es : List (Given Command)). of_number d.line (table word step count k es)) here ∙
-          ap (λ (b : Bool). cons_option (if b then Some number else None) (of_number d.line others)) (ne_eqb c.line d.line (λ same. (let over = rising-low (c.line + 1) g d up.1 there in omega (arith, over, same))))) in
+          ap (λ (b : Bool). cons_option (if b then Some number else None) (of_number d.line others))
+          (ne_eqb c.line d.line (λ same. (let over = rising-low (c.line + 1) g d up.1 there in omega (arith, over, same))))) in
           let next : count + (k + 1) ≡ count + k + 1 = omega arith in
           subst (λ (l : List (Option ℕ)). Counts step (count + k) (l ++ flat_map renewed g)) (sym one) (refl, subst (λ (a : ℕ). Counts step a (flat_map renewed g)) next rest)
       by false none deeper =
@@ -175,7 +187,8 @@ module _ (word step count : ℕ) (given_new : FileCommand → List NewNumber) wh
   pub unchanged : (g : List FileCommand) → ((c : FileCommand) → Contains g c → is_entry c.command ≡ true → given_new c ≡ []) → flat_map renewed g ≡ numbers g
   unchanged [] none = refl
   unchanged (c ∷ g) none =
-      (let one : renewed c ≡ alone c.command = by (is_entry c.command) refl in let rest = unchanged g (λ d there is. none d (Contains-tail c d g there) is) in (λ i. one i ++ rest i) ∙ sym (numbers-append (c ∷ []) g))
+      (let one : renewed c ≡ alone c.command = by (is_entry c.command) refl in let rest =
+      unchanged g (λ d there is. none d (Contains-tail c d g there) is) in (λ i. one i ++ rest i) ∙ sym (numbers-append (c ∷ []) g))
     where
       by : (b : Bool) → is_entry c.command ≡ b → renewed c ≡ alone c.command
       by true entry = ap (λ (ns : List NewNumber). alone (with_number c.command ns)) (none c (Contains-head c g) entry)
@@ -183,21 +196,25 @@ module _ (word step count : ℕ) (given_new : FileCommand → List NewNumber) wh
 
 -- new entries of packet lists have the numbers of their places
 packets-count : (b k : ℕ) (row : PacketList) (classes : List Class) →
-    (let new : List Written = map written_of (map (λ (e : ℕ × Class). packet_command forms.Block row.name (if true then Some (10 * e.0) else None) (opposite_packet_entry row.entries e.1)) (enumerate_from k classes)) in
+    (let new : List Written =
+    map written_of (map (λ (e : ℕ × Class). packet_command forms.Block row.name (if true then Some (10 * e.0) else None) (opposite_packet_entry row.entries e.1)) (enumerate_from k classes)) in
     Counts 10 k (numbers (map (in_block b) new)) × (length (numbers (map (in_block b) new)) ≡ length classes))
 packets-count b k row [] = (tt, refl)
 packets-count b k row (c ∷ classes) = let (all, long) = packets-count b (k + 1) row classes in ((refl, all), ap suc long)
 
 pub classes-count : (b : ℕ) (place : ListPlace) (row : PacketList) (classes : List Class) → place.form ≡ forms.Block → place.numbered ≡ true →
-    Counts 10 1 (numbers (map (in_block b) (map written_of (class_commands place row classes)))) × (length (numbers (map (in_block b) (map written_of (class_commands place row classes)))) ≡ length classes)
+    Counts 10 1 (numbers (map (in_block b) (map written_of (class_commands place row classes)))) × (length
+    (numbers (map (in_block b) (map written_of (class_commands place row classes)))) ≡ length classes)
 classes-count b place row classes form numbered =
-    let same : map written_of (class_commands place row classes) ≡ map written_of (map (λ (e : ℕ × Class). packet_command forms.Block row.name (if true then Some (10 * e.0) else None) (opposite_packet_entry row.entries e.1)) (enumerate_from 1 classes)) =
+    let same : map written_of (class_commands place row classes) ≡ map written_of
+    (map (λ (e : ℕ × Class). packet_command forms.Block row.name (if true then Some (10 * e.0) else None) (opposite_packet_entry row.entries e.1)) (enumerate_from 1 classes)) =
     λ i. map written_of (map (λ (e : ℕ × Class). packet_command (form i) row.name (if numbered i then Some (10 * e.0) else None) (opposite_packet_entry row.entries e.1)) (enumerate_from 1 classes)) in
     subst (λ (ws : List Written). Counts 10 1 (numbers (map (in_block b) ws)) × (length (numbers (map (in_block b) ws)) ≡ length classes)) (sym same) (packets-count b 1 row classes)
 
 -- and those of route lists
 pub prefixes-count : (b k : ℕ) (place : ListPlace) (row : RouteList) (prefixes : List Prefix) → place.numbered ≡ true →
-    Counts 5 k (numbers (map (in_block b) (map written_of (map (prefix_command place row) (enumerate_from k prefixes))))) × (length (numbers (map (in_block b) (map written_of (map (prefix_command place row) (enumerate_from k prefixes))))) ≡ length prefixes)
+    Counts 5 k (numbers (map (in_block b) (map written_of (map (prefix_command place row) (enumerate_from k prefixes))))) × (length
+    (numbers (map (in_block b) (map written_of (map (prefix_command place row) (enumerate_from k prefixes))))) ≡ length prefixes)
 prefixes-count b k place row [] numbered = (tt, refl)
 prefixes-count b k place row (p ∷ prefixes) numbered =
     let (all, long) = prefixes-count b (k + 1) place row prefixes numbered in ((ap (λ (o : Bool). if o then Some (5 * k) else None) numbered, all), ap suc long)

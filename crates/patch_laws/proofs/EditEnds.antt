@@ -34,7 +34,8 @@ use Rattle.patch_laws.proofs.EditThere.{are-named}
 use Rattle.patch_laws.proofs.EndLines.{group-lines-fit, process-lines-read}
 
 -- a line of a block, after its last command
-pub at-end : (cs : List FileCommand) (c head last : FileCommand) (within : BlockKind) (w : Written) → HasBlock cs head last within → last ≡ c → IsLineOf w.line within c.block w.command → IsInnerOf cs c w
+pub at-end : (cs : List FileCommand) (c head last : FileCommand) (within : BlockKind) (w : Written) → HasBlock cs head last within → last ≡ c →
+    IsLineOf w.line within c.block w.command → IsInnerOf cs c w
 at-end cs c head last within w b same is =
     let number : head.line ≡ c.block = sym b.last_block ∙ ap (λ (d : FileCommand). d.block) same in
     record {
@@ -50,7 +51,8 @@ at-end cs c head last within w b same is =
       part = is.part;
     }
 
-module _ (net : Network) (places : List Places) (chosen : List Edit) (router : ℕ) (text : List ℕ) (lines : Lines) (cs : List FileCommand) (file : IsEditedFile net places chosen router text lines cs) where
+module _ (net : Network) (places : List Places) (chosen : List Edit) (router : ℕ) (text : List ℕ) (lines : Lines) (cs : List FileCommand)
+    (file : IsEditedFile net places chosen router text lines cs) where
   abbrev own : Places
   own = own_places cs
 
@@ -65,7 +67,8 @@ module _ (net : Network) (places : List Places) (chosen : List Edit) (router : �
 
   process-inner : (c : FileCommand) → Contains cs c → (command : Command) → Contains (process_commands net chosen router) command → own.process_last ≡ c.line → IsInnerOf cs c (written_of command)
   process-inner c among command there line =
-      let read = all-of (IsProcessLine net.protocol c.block) (process_commands net chosen router) (process-lines-read net chosen router c.block file.writable file.fits (are-named net places chosen router text lines cs file)) command there in
+      let read = all-of (IsProcessLine net.protocol c.block) (process_commands net chosen router)
+      (process-lines-read net chosen router c.block file.writable file.fits (are-named net places chosen router text lines cs file)) command there in
       let same : here.last ≡ c = one-command (text_lines text) cs here.last c file.stand here.block.last_among among (sym (last-line net places chosen router text lines cs file) ∙ line) in
       at-end cs c here.head here.last here.within (written_of command) here.block same (subst (λ (k : BlockKind). IsLineOf (line_of command) k c.block command) within-is read.line)
 
@@ -73,7 +76,8 @@ module _ (net : Network) (places : List Places) (chosen : List Edit) (router : �
   group-inner c among command a =
       let named : IsTrue (is_name a.name) = are-named net places chosen router text lines cs file (Packet a.face, a.name) a.named in
       let same : a.block.last ≡ c = one-command (text_lines text) cs a.block.last c file.stand a.block.block.last_among among (sym a.line) in
-      subst (λ (k : Command). IsInnerOf cs c (written_of k)) (sym a.says) (at-end cs c a.block.head a.block.last kinds.Interface (written_of (commands.Group a.name true)) a.block.block same (group-lines-fit a.name c.block named).0.0)
+      subst (λ (k : Command). IsInnerOf cs c (written_of k)) (sym a.says)
+      (at-end cs c a.block.head a.block.last kinds.Interface (written_of (commands.Group a.name true)) a.block.block same (group-lines-fit a.name c.block named).0.0)
 
   -- the lines after a command
   pub after-inner : (c : FileCommand) → Contains cs c → (w : Written) → Contains (ends_at net places own chosen router c) w → IsInnerOf cs c w

@@ -1,5 +1,6 @@
 -- The lines of entries and of new lists that edits put into a file.
-use Rattle.std.proofs.Common.{◌≡◌, ◌≢◌, ℕ, ◌+◌, ◌*◌, ◌≤◌, ◌⊎◌, inl, inr, Bool, true, false, if◌then◌else◌, Option, Some, None, List, [], ◌∷◌, ◌++◌, length, map, refl, sym, ap, subst, ◌∙◌, arith, ⊎_elim, Contains, codes, IsTrue}
+use Rattle.std.proofs.Common.{◌≡◌, ◌≢◌, ℕ, ◌+◌, ◌*◌, ◌≤◌, ◌⊎◌, inl, inr, Bool, true, false, if◌then◌else◌, Option, Some, None, List, [], ◌∷◌, ◌++◌, length, map, refl, sym, ap, subst, ◌∙◌}
+use Rattle.std.proofs.Common.{arith, ⊎_elim, Contains, codes, IsTrue}
 use Rattle.std.specs.List.{AllByRecursion, enumerate_from, flat_map}
 use Rattle.std.proofs.lemmas.Option.{slice_get_within}
 use Rattle.std.proofs.lemmas.List.Elements.{Contains-append_cases}
@@ -38,20 +39,21 @@ use Rattle.edit_list.specs.declared.list_kinds.NewList.{NewList}
 use Rattle.edit_list.specs.declared.list_kinds.NewList.TheVariants.{Route, Packet}
 use Rattle.edit_list.specs.After.{class_entry, every_packet, opposite_packet_entry}
 use Rattle.edit_list.specs.Writable.{is_writable}
-use Rattle.edit_list.specs.Changes.{list_prefixes, list_classes, new_prefixes, new_classes}
+use Rattle.edit_list.specs.Changes.{list_prefixes, list_classes, new_prefixes, new_classes, packet_list_change, route_list_change}
 use Rattle.line_patcher.specs.Additions.{all_at, commands_before, entries_before}
-use Rattle.line_patcher.specs.EntryLines.{at_front, class_command, class_commands, first_line, order_at, edited_packet_lists, edited_route_lists, packet_command, packet_list_entries, prefix_command, prefix_commands, route_list_entries}
+use Rattle.line_patcher.specs.EntryLines.{at_front, class_command, class_commands, first_line, order_at, edited_packet_lists, edited_route_lists, packet_command, packet_list_entries}
+use Rattle.line_patcher.specs.EntryLines.{prefix_command, prefix_commands, route_list_entries}
 use Rattle.line_patcher.specs.NewListLines.{commands_of_new_lists, deny_prefix, new_entries, new_entry, new_list_commands, permit_all}
 use Rattle.line_patcher.specs.Written.{line_of}
+use Rattle.line_patcher.proofs.Tables.{few_put}
 use Rattle.line_edit_laws.specs.Sites.{IsBlockLine, IsSingleLine}
 use Rattle.patch_laws.specs.EditFiles.{HasPacketList, HasRouteList, IsEditedFile}
 use Rattle.patch_laws.specs.EditSiteLaws.{own_places}
 use Rattle.patch_laws.specs.Fits.{IsFit}
 use Rattle.patch_laws.specs.NewListSites.{IsNewName}
 use Rattle.patch_laws.specs.Written.{written_of}
-use Rattle.patch_laws.proofs.EditBusy.{AtCommand, at-one, first-command, packets-of, process-here, process-line, routes-of}
+use Rattle.patch_laws.proofs.EditBusy.{AtCommand, at-enumerated, at-one, first-command, packets-of, process-here, process-line, routes-of}
 use Rattle.patch_laws.proofs.EditLists.{packets-have, routes-have}
-use Rattle.patch_laws.proofs.EditRenumber.{at-enumerated, few-classes, few-prefixes}
 use Rattle.patch_laws.proofs.EntrySites.{block-entries, list-entries, prefix-entries}
 use Rattle.patch_laws.proofs.PlainWritten.{plain-fit}
 
@@ -78,7 +80,8 @@ form_part forms.Block block name = groups.Block block
 form_part forms.Lines block name = groups.Lines name
 form_part forms.PrefixLines block name = groups.PrefixLines name
 
-packet-part : (block : ℕ) (f : ListForm) (name : List ℕ) (order : Option ℕ) (entry : PacketEntry) → (f ≡ forms.Block) ⊎ (f ≡ forms.Lines) → part_in block (packet_command f name order entry) ≡ form_part f block name
+packet-part : (block : ℕ) (f : ListForm) (name : List ℕ) (order : Option ℕ) (entry : PacketEntry) → (f ≡ forms.Block) ⊎ (f ≡ forms.Lines) →
+    part_in block (packet_command f name order entry) ≡ form_part f block name
 packet-part block forms.Block name order entry packet = refl
 packet-part block forms.Lines name order entry packet = refl
 packet-part block forms.PrefixLines name order entry (inl e) = absurd cc
@@ -95,13 +98,15 @@ pub record TableEntry (cs : List FileCommand) (item : ℕ × Command) : Type 0 w
   pub among : Contains (config_of cs).lists list
   pub some : list.entries ≢ []
   pub number : item.0 ≡ first_line (list_place list)
-  pub stands : ((list.kind ≡ Extended) × (list.form ≡ forms.Block) × IsBlockLine kinds.Extended (written_of item.1)) ⊎ (((list.form ≡ forms.Lines) ⊎ (list.form ≡ forms.PrefixLines)) × IsSingleLine (written_of item.1))
+  pub stands : ((list.kind ≡ Extended) × (list.form ≡ forms.Block) × IsBlockLine kinds.Extended
+      (written_of item.1)) ⊎ (((list.form ≡ forms.Lines) ⊎ (list.form ≡ forms.PrefixLines)) × IsSingleLine (written_of item.1))
   pub fit : IsFit (line_of item.1)
   pub order : list.numbered ≡ false → entry_number item.1 ≡ None
   pub part : (block : ℕ) → part_in block item.1 ≡ form_part list.form block list.name
   pub is : is_entry item.1 ≡ true
 
-module _ (net : Network) (places : List Places) (chosen : List Edit) (router : ℕ) (text : List ℕ) (lines : Lines) (cs : List FileCommand) (file : IsEditedFile net places chosen router text lines cs) where
+module _ (net : Network) (places : List Places) (chosen : List Edit) (router : ℕ) (text : List ℕ) (lines : Lines) (cs : List FileCommand)
+    (file : IsEditedFile net places chosen router text lines cs) where
   abbrev own : Places
   own = own_places cs
 
@@ -118,7 +123,8 @@ module _ (net : Network) (places : List Places) (chosen : List Edit) (router : �
       part : (h.list.form ≡ forms.Block) ⊎ (h.list.form ≡ forms.Lines) → (block : ℕ) → part_in block (packet_command h.list.form row.name order new) ≡ form_part h.list.form block h.list.name
       part packet block = packet-part block h.list.form row.name order new packet ∙ ap (form_part h.list.form block) (sym h.name)
 
-      by : (h.list.form ≡ forms.Block) ⊎ ((h.list.form ≡ forms.Lines) × (list_kind (number_of h.list.name) ≡ Some true)) → TableEntry cs (first_line (list_place h.list), packet_command h.list.form row.name order new)
+      by : (h.list.form ≡ forms.Block) ⊎ ((h.list.form ≡ forms.Lines) × (list_kind (number_of h.list.name) ≡ Some true)) →
+          TableEntry cs (first_line (list_place h.list), packet_command h.list.form row.name order new)
       by (inl form) =
           let b = block-entries row.name order new writable (order-fits (list_place h.list) 10 entry.0 2147483647 (omega arith) (omega arith)) in
           record {
@@ -146,9 +152,11 @@ module _ (net : Network) (places : List Places) (chosen : List Edit) (router : �
             is = packet-entry-is h.list.form row.name order new;
           }
 
-  route-item : (id : ℕ) (row : RouteList) (h : HasRouteList cs row) (entry : ℕ × Prefix) → 1 ≤ entry.0 → entry.0 ≤ 16384 → TableEntry cs (first_line (list_place h.list), prefix_command (list_place h.list) row entry)
+  route-item : (id : ℕ) (row : RouteList) (h : HasRouteList cs row) (entry : ℕ × Prefix) → 1 ≤ entry.0 → entry.0 ≤ 16384 →
+      TableEntry cs (first_line (list_place h.list), prefix_command (list_place h.list) row entry)
   route-item id row h entry low few =
-      let b = prefix-entries (list_place h.list) row entry (subst (λ (n : List ℕ). IsTrue (is_name n)) h.name h.is_name) (λ same. h.other (h.name ∙ same)) (order-fits (list_place h.list) 5 entry.0 4294967294 (omega arith) (omega arith)) in
+      let b = prefix-entries (list_place h.list) row entry (subst (λ (n : List ℕ). IsTrue (is_name n)) h.name h.is_name) (λ same. h.other (h.name ∙ same))
+      (order-fits (list_place h.list) 5 entry.0 4294967294 (omega arith) (omega arith)) in
       record {
         list = h.list;
         among = h.among;
@@ -167,33 +175,42 @@ module _ (net : Network) (places : List Places) (chosen : List Edit) (router : �
       (λ packets.
       let (id, in_ids, has) = from_piece (packet_list_entries net own chosen) (edited_packet_lists net chosen router) item packets in
       let (row, at, h) = packets-of net places chosen router text lines cs file id in_ids in
-      let here = subst (λ (l : List (ℕ × Command)). Contains l item) (packets-have net cs (λ (list : PacketList) (place : ListPlace). at_front place (class_commands place list (list_classes chosen id))) id row h at) has in
+      let here = subst (λ (l : List (ℕ × Command)). Contains l item)
+      (packets-have net cs (λ (list : PacketList) (place : ListPlace). at_front place (class_commands place list (list_classes chosen id))) id row h at) has in
       let (w, in_commands, is) = from_map (λ (w : Command). (first_line (list_place h.list), w)) (class_commands (list_place h.list) row (list_classes chosen id)) item here in
       let (entry, in_classes, same) = from_map (class_command (list_place h.list) row) (enumerate_from 1 (list_classes chosen id)) w in_commands in
       let (k, number, get) = at-enumerated 1 (list_classes chosen id) entry in_classes in
       let low = slice_get_within (list_classes chosen id) k entry.1 get in
-      let few = few-classes chosen id in
+      let few : length (list_classes chosen id) ≤ length chosen = few_put packet_list_change chosen id in
       let all = file.few in
-      subst (TableEntry cs) (ap (λ (x : Command). (first_line (list_place h.list), x)) same ∙ is) (packet-item id row h entry (file.classes id entry.1 (item_at_place (list_classes chosen id) k entry.1 get)) (omega arith) (omega arith)))
+      subst (TableEntry cs) (ap (λ (x : Command). (first_line (list_place h.list), x)) same ∙ is)
+      (packet-item id row h entry (file.classes id entry.1 (item_at_place (list_classes chosen id) k entry.1 get)) (omega arith) (omega arith)))
       (λ routes.
       let (id, in_ids, has) = from_piece (route_list_entries net own chosen) (edited_route_lists net chosen router) item routes in
       let (row, at, h) = routes-of net places chosen router text lines cs file id in_ids in
-      let here = subst (λ (l : List (ℕ × Command)). Contains l item) (routes-have net cs (λ (list : RouteList) (place : ListPlace). at_front place (prefix_commands place list (list_prefixes chosen id))) id row h at) has in
+      let here = subst (λ (l : List (ℕ × Command)). Contains l item)
+      (routes-have net cs (λ (list : RouteList) (place : ListPlace). at_front place (prefix_commands place list (list_prefixes chosen id))) id row h at) has in
       let (w, in_commands, is) = from_map (λ (w : Command). (first_line (list_place h.list), w)) (prefix_commands (list_place h.list) row (list_prefixes chosen id)) item here in
       let (entry, in_prefixes, same) = from_map (prefix_command (list_place h.list) row) (enumerate_from 1 (list_prefixes chosen id)) w in_commands in
       let (k, number, get) = at-enumerated 1 (list_prefixes chosen id) entry in_prefixes in
       let low = slice_get_within (list_prefixes chosen id) k entry.1 get in
-      let few = few-prefixes chosen id in
+      let few : length (list_prefixes chosen id) ≤ length chosen = few_put route_list_change chosen id in
       let all = file.few in
       subst (TableEntry cs) (ap (λ (x : Command). (first_line (list_place h.list), x)) same ∙ is) (route-item id row h entry (omega arith) (omega arith)))
-      (Contains-append_cases (flat_map (packet_list_entries net own chosen) (edited_packet_lists net chosen router)) (flat_map (route_list_entries net own chosen) (edited_route_lists net chosen router)) item there)
+      (Contains-append_cases (flat_map (packet_list_entries net own chosen) (edited_packet_lists net chosen router))
+      (flat_map (route_list_entries net own chosen) (edited_route_lists net chosen router)) item there)
 
   -- all that comes before lines comes before those of commands
   pub before-command : (item : ℕ × Command) → Contains (commands_before net own chosen router) item → AtCommand cs item.0
   before-command item there = ⊎_elim
       (λ new.
       let here = process-here net places chosen router text lines cs file in
-      record { command = here.head; among = here.block.among; line = at-one own.process (λ (k : Command). k) (commands_of_new_lists net chosen router) item new ∙ process-line net places chosen router text lines cs file })
+      record {
+        command = here.head;
+        among = here.block.among;
+        line =
+            at-one own.process (λ (k : Command). k) (commands_of_new_lists net chosen router) item new ∙ process-line net places chosen router text lines cs file;
+      })
       (λ entry.
       let t = table-entry item entry in
       let c = first-command cs t.list t.among t.some in
@@ -203,7 +220,8 @@ module _ (net : Network) (places : List Places) (chosen : List Edit) (router : �
 -- the lines of new lists may be put in
 deny-fit : (name : List ℕ) → IsTrue (is_name name) → name ≢ codes "sequence-number" → (entry : ℕ × Prefix) → 1 ≤ entry.0 → entry.0 ≤ 16384 → IsFit (line_of (deny_prefix name entry))
 deny-fit name is other entry low high =
-    plain-fit kinds.Top (commands.PrefixLine name (Some (5 * entry.0)) (route_text false entry.1)) (route-line name (Some (5 * entry.0)) false entry.1 is other ((omega arith), (omega arith))) (omega arith)
+    plain-fit kinds.Top (commands.PrefixLine name (Some (5 * entry.0)) (route_text false entry.1))
+    (route-line name (Some (5 * entry.0)) false entry.1 is other ((omega arith), (omega arith))) (omega arith)
 
 permit-fit : (name : List ℕ) → IsTrue (is_name name) → name ≢ codes "sequence-number" → (number : ℕ) → 1 ≤ number → number ≤ 100000 → IsFit (line_of (permit_all name number))
 permit-fit name is other number low high =

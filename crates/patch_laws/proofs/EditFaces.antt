@@ -1,5 +1,6 @@
 -- The interfaces of a file grow by the bindings of new packet lists.
-use Rattle.std.proofs.Common.{◌≡◌, ◌≢◌, ℕ, ◌≤◌, ◌==◌, ◌⊎◌, inl, inr, Bool, true, false, if◌then◌else◌, Option, Some, None, List, [], ◌∷◌, ◌++◌, map, refl, sym, ap, subst, ◌∙◌, arith, ⊎_elim, Contains, append-nil}
+use Rattle.std.proofs.Common.{◌≡◌, ◌≢◌, ℕ, ◌≤◌, ◌==◌, ◌⊎◌, inl, inr, Bool, true, false, if◌then◌else◌, Option, Some, None, List, [], ◌∷◌, ◌++◌, map, refl, sym, ap, subst, ◌∙◌, arith, ⊎_elim}
+use Rattle.std.proofs.Common.{Contains, append-nil}
 use Rattle.std.specs.Prelude.{AllPairs, bytes_eq, option_map, option_and_then, slice_get}
 use Rattle.std.specs.Option.{option_or}
 use Rattle.std.specs.List.{cons_option, filter_map, flat_map, zip}
@@ -7,7 +8,8 @@ use Rattle.std.proofs.lemmas.Bool.{cases_Bool, eq-eqb, ne_eqb, false≢true}
 use Rattle.std.proofs.lemmas.Option.{same_Some, none-some}
 use Rattle.std.proofs.lemmas.Slice.Eq.{bytes_eq-Decides}
 use Rattle.arc_base.specs.declared.place.Face.{Face}
-use Rattle.arc_base.proofs.Items.{Contains-cases, Contains-none, Contains-head, Contains-tail, Contains-filter, Contains-piece, AllPairs-append, AllPairs-among, AllPairs-first, AllPairs-none, AllPairs-rest, AllPairs-single, from_map}
+use Rattle.arc_base.proofs.Items.{Contains-cases, Contains-none, Contains-head, Contains-tail, Contains-filter, Contains-piece, AllPairs-append, AllPairs-among, AllPairs-first}
+use Rattle.arc_base.proofs.Items.{AllPairs-none, AllPairs-rest, AllPairs-single, from_map}
 use Rattle.net_model.specs.declared.rows.FaceRow.{FaceRow}
 use Rattle.net_model.specs.declared.rows.Network.{Network}
 use Rattle.net_model.proofs.Readings.{item_at_place}
@@ -105,13 +107,16 @@ same-stand (c ∷ cs) x y once in_x in_y one two = by (Contains-cases c x cs in_
 
 face-clash : (u v : Command) (name : List ℕ) → u ≡ commands.Interface name → v ≡ commands.Interface name → Clash u v
 face-clash u v name one two =
-    any_of (λ (s : Stand). stand_of u ≡ Some s) (excluded v) (stands.Interface name) (subst (λ (c : Command). Contains (excluded c) (stands.Interface name)) (sym two) (Contains-head (stands.Interface name) [])) (ap stand_of one)
+    any_of (λ (s : Stand). stand_of u ≡ Some s) (excluded v) (stands.Interface name)
+    (subst (λ (c : Command). Contains (excluded c) (stands.Interface name)) (sym two) (Contains-head (stands.Interface name) [])) (ap stand_of one)
 
-picks-alike : {E X Y Z : Type 0} (k : E → Option X) (l : E → Option Y) (u : X → Z) (v : Y → Z) (es : List E) → ((e : E) → Contains es e → option_map u (k e) ≡ option_map v (l e)) → map u (filter_map k es) ≡ map v (filter_map l es)
+picks-alike : {E X Y Z : Type 0} (k : E → Option X) (l : E → Option Y) (u : X → Z) (v : Y → Z) (es : List E) → ((e : E) → Contains es e → option_map u (k e) ≡ option_map v (l e)) →
+    map u (filter_map k es) ≡ map v (filter_map l es)
 picks-alike k l u v [] each = refl
 picks-alike {E} {X} {Y} {Z} k l u v (e ∷ es) each = by (k e) (l e) (each e (Contains-head e es)) (picks-alike k l u v es (λ x there. each x (Contains-tail e x es there)))
   where
-    by : (a : Option X) (b : Option Y) → option_map u a ≡ option_map v b → map u (filter_map k es) ≡ map v (filter_map l es) → map u (cons_option a (filter_map k es)) ≡ map v (cons_option b (filter_map l es))
+    by : (a : Option X) (b : Option Y) → option_map u a ≡ option_map v b → map u (filter_map k es) ≡ map v (filter_map l es) →
+        map u (cons_option a (filter_map k es)) ≡ map v (cons_option b (filter_map l es))
     by None None same rest = rest
     by None (Some y) same rest = absurd (none-some (v y) same)
     by (Some x) None same rest = absurd (none-some (u x) (sym same))
@@ -121,7 +126,8 @@ zip-apart : {X Y : Type 0} (xs : List X) (ys : List Y) → AllPairs (λ a b. a �
 zip-apart [] ys all = AllPairs-none (λ a b. a.0 ≢ b.0)
 zip-apart (x ∷ xs) [] all = AllPairs-none (λ a b. a.0 ≢ b.0)
 zip-apart {X} {Y} (x ∷ xs) (y ∷ ys) all =
-    AllPairs-append (λ (a : X × Y) (b : X × Y). a.0 ≢ b.0) ((x, y) ∷ []) (zip xs ys) (AllPairs-single (λ (a : X × Y) (b : X × Y). a.0 ≢ b.0) (x, y)) (zip-apart xs ys (AllPairs-rest (λ (a : X) (b : X). a ≢ b) x xs all))
+    AllPairs-append (λ (a : X × Y) (b : X × Y). a.0 ≢ b.0) ((x, y) ∷ []) (zip xs ys) (AllPairs-single (λ (a : X × Y) (b : X × Y). a.0 ≢ b.0) (x, y))
+    (zip-apart xs ys (AllPairs-rest (λ (a : X) (b : X). a ≢ b) x xs all))
     (λ a b one two. ⊎_elim
     (λ (here : (x, y) ≡ a).
     let (k, at, other) = zip_places xs ys b two in
@@ -130,13 +136,15 @@ zip-apart {X} {Y} (x ∷ xs) (y ∷ ys) all =
     (Contains-cases (x, y) a [] one))
 
 -- where no list is bound the interface stays
-face-stays : (net : Network) (chosen : List Edit) (router : ℕ) (command : Command) (name : List ℕ) (block : List FileCommand) → command ≡ commands.Interface name → new_inbound net chosen router name ≡ None →
+face-stays : (net : Network) (chosen : List Edit) (router : ℕ) (command : Command) (name : List ℕ) (block : List FileCommand) → command ≡ commands.Interface name →
+    new_inbound net chosen router name ≡ None →
     face_by command 0 block ≡ map (face_with net chosen router) (face_by command 0 block)
 face-stays net chosen router command name block is none =
     subst (λ (c : Command). face_by c 0 block ≡ map (face_with net chosen router) (face_by c 0 block)) (sym is)
     (let t = face_text name 0 block in sym (ap (λ (o : Option (List ℕ)). record t { list_in = option_or (option_map said o) t.list_in } ∷ []) none))
 
-module _ (net : Network) (places : List Places) (chosen : List Edit) (router : ℕ) (text : List ℕ) (lines : Lines) (cs : List FileCommand) (f : IsEditedFile net places chosen router text lines cs) where
+module _ (net : Network) (places : List Places) (chosen : List Edit) (router : ℕ) (text : List ℕ) (lines : Lines) (cs : List FileCommand)
+    (f : IsEditedFile net places chosen router text lines cs) where
   abbrev grown_at : FileCommand → List FileCommand
   grown_at c = grow_at net places chosen router text lines cs c
 
@@ -167,7 +175,8 @@ module _ (net : Network) (places : List Places) (chosen : List Edit) (router : �
         by true e same = (bytes_eq-Decides h.row.name name).0 e
         by false e same = absurd (none-some x same)
 
-    one-bound : (a b : NewList × List ℕ) → Contains (named_lists net chosen router) a → Contains (named_lists net chosen router) b → a.0 ≢ b.0 → (x y : List ℕ) → bound a ≡ Some x → bound b ≡ Some y → ⊥
+    one-bound : (a b : NewList × List ℕ) → Contains (named_lists net chosen router) a → Contains (named_lists net chosen router) b → a.0 ≢ b.0 → (x y : List ℕ) → bound a ≡ Some x →
+        bound b ≡ Some y → ⊥
     one-bound (Route face, n) b in_a in_b differ x y one two = none-some x one
     one-bound (Packet face, n) (Route other, m) in_a in_b differ x y one two = none-some y two
     one-bound (Packet face, n) (Packet other, m) in_a in_b differ x y one two =
@@ -178,8 +187,10 @@ module _ (net : Network) (places : List Places) (chosen : List Edit) (router : �
 
     none-twice : AllPairs (λ (x : List ℕ) (y : List ℕ). ⊥) (filter_map bound (named_lists net chosen router))
     none-twice =
-        pairs_picked (λ (a : NewList × List ℕ) (b : NewList × List ℕ). (x y : List ℕ) → bound a ≡ Some x → bound b ≡ Some y → ⊥) (λ (x : List ℕ) (y : List ℕ). ⊥) bound (named_lists net chosen router) (λ a b x y never one two. never x y one two)
-        (AllPairs-among (λ (a : NewList × List ℕ) (b : NewList × List ℕ). a.0 ≢ b.0) (λ (a : NewList × List ℕ) (b : NewList × List ℕ). (x y : List ℕ) → bound a ≡ Some x → bound b ≡ Some y → ⊥) (named_lists net chosen router) one-bound lists-apart)
+        pairs_picked (λ (a : NewList × List ℕ) (b : NewList × List ℕ). (x y : List ℕ) → bound a ≡ Some x → bound b ≡ Some y → ⊥) (λ (x : List ℕ) (y : List ℕ). ⊥) bound
+        (named_lists net chosen router) (λ a b x y never one two. never x y one two)
+        (AllPairs-among (λ (a : NewList × List ℕ) (b : NewList × List ℕ). a.0 ≢ b.0)
+        (λ (a : NewList × List ℕ) (b : NewList × List ℕ). (x y : List ℕ) → bound a ≡ Some x → bound b ≡ Some y → ⊥) (named_lists net chosen router) one-bound lists-apart)
 
   module _ (q : Part) (first : FileCommand) (rest : List FileCommand) (is : members cs q ≡ first ∷ rest) (name : List ℕ) (heads : first.command ≡ commands.Interface name) where
     first-there : Contains (members cs q) first
@@ -211,7 +222,8 @@ module _ (net : Network) (places : List Places) (chosen : List Edit) (router : �
     mine c there = part-block c.block b.head.line c.command ((members-of cs q c there).1 ∙ part-is)
 
     last-there : Contains (members cs q) b.last
-    last-there = Contains-filter (λ (d : FileCommand). is_same q (part_of d)) cs b.last b.block.last_among (ap (is_same q) (block-is b.last b.block.last_among b.block.last_block ∙ sym part-is) ∙ is-self q)
+    last-there = Contains-filter (λ (d : FileCommand). is_same q (part_of d)) cs b.last b.block.last_among
+        (ap (is_same q) (block-is b.last b.block.last_among b.block.last_block ∙ sym part-is) ∙ is-self q)
 
     not-process : (c : FileCommand) → Contains (members cs q) c → (p : HasProcess cs f.process) → c ≡ p.last → ⊥
     not-process c there p last =
@@ -260,7 +272,8 @@ module _ (net : Network) (places : List Places) (chosen : List Edit) (router : �
         (λ (same : bytes_eq row name ≡ true).
         let whole : h-face.name ≡ name = named ∙ (bytes_eq-Decides row name).0 same in
         let one : e.head.command ≡ commands.Interface name = e.name ∙ ap (λ (n : List ℕ). commands.Interface n) whole in
-        let head : e.head ≡ b.head = same-stand cs e.head b.head f.once e.block.among b.block.among (face-clash e.head.command b.head.command name one b.name) (face-clash b.head.command e.head.command name b.name one) in
+        let head : e.head ≡ b.head = same-stand cs e.head b.head f.once e.block.among b.block.among (face-clash e.head.command b.head.command name one b.name)
+        (face-clash b.head.command e.head.command name b.name one) in
         eq-eqb h-face.last b.last.line (e.last_line ∙ ap (λ (x : FileCommand). x.line) (one-last h-face e head)) ∙ sym same)
         (λ (other : bytes_eq row name ≡ false).
         ne_eqb h-face.last b.last.line (λ same.
@@ -271,7 +284,8 @@ module _ (net : Network) (places : List Places) (chosen : List Edit) (router : �
         false≢true (sym other ∙ (bytes_eq-Decides row name).1 (sym named ∙ whole))) ∙ sym other)
         (cases_Bool (bytes_eq row name))
 
-    bound-here : (named : NewList × List ℕ) → Contains (named_lists net chosen router) named → option_map unplaced (option_and_then (if_number b.last.line) (wrote named)) ≡ option_map binding (bound name named)
+    bound-here : (named : NewList × List ℕ) → Contains (named_lists net chosen router) named →
+        option_map unplaced (option_and_then (if_number b.last.line) (wrote named)) ≡ option_map binding (bound name named)
     bound-here (Route face, n) there = refl
     bound-here (Packet face, n) there =
         let h = f.faces face n there in
@@ -305,7 +319,8 @@ module _ (net : Network) (places : List Places) (chosen : List Edit) (router : �
 
     face-shape : map bare (flat_map grown_at (members cs q)) ≡ map bare (members cs q) ++ map binding (filter_map (bound name) (named_lists net chosen router))
     face-shape =
-        ends-grown 1 (members cs q) b.last grown_at (map binding (filter_map (bound name) (named_lists net chosen router))) (rising-filter (λ (d : FileCommand). is_same q (part_of d)) 1 cs up) last-there
+        ends-grown 1 (members cs q) b.last grown_at (map binding (filter_map (bound name) (named_lists net chosen router)))
+        (rising-filter (λ (d : FileCommand). is_same q (part_of d)) 1 cs up) last-there
         (λ d there. b.block.latest d (members-of cs q d there).0 ((members-of cs q d there).1 ∙ part-is))
         (λ c there other. bare-plain net places chosen router text lines cs f q first rest is no-list c there ∙ ap (λ (l : List Written). bare c ∷ map plainly l) (other-ends c there other))
         (bare-plain net places chosen router text lines cs f q first rest is no-list b.last last-there ∙ ap (λ (l : List FileCommand). bare b.last ∷ l) last-ends)
@@ -317,7 +332,8 @@ module _ (net : Network) (places : List Places) (chosen : List Edit) (router : �
             face_of (map bare (flat_map grown_at (members cs q))) ≡ map (face_with net chosen router) (face_of (map bare (members cs q)))
         by [] e once =
             ap face_of (face-shape ∙ (λ i. map bare (is i) ++ map binding (e i)) ∙ append-nil (map bare (first ∷ rest))) ∙
-            face-stays net chosen router first.command name (map bare (first ∷ rest)) heads (ap (λ (l : List (List ℕ)). slice_get l 0) e) ∙ ap (λ (l : List FileCommand). map (face_with net chosen router) (face_of (map bare l))) (sym is)
+            face-stays net chosen router first.command name (map bare (first ∷ rest)) heads (ap (λ (l : List (List ℕ)). slice_get l 0) e)
+            ∙ ap (λ (l : List FileCommand). map (face_with net chosen router) (face_of (map bare l))) (sym is)
         by (n ∷ []) e once =
             ap face_of (face-shape ∙ (λ i. map bare (is i) ++ map binding (e i))) ∙ faces-grow net chosen router first rest name n heads (ap (λ (l : List (List ℕ)). slice_get l 0) e) ∙
             ap (λ (l : List FileCommand). map (face_with net chosen router) (face_of (map bare l))) (sym is)
@@ -336,5 +352,6 @@ module _ (net : Network) (places : List Places) (chosen : List Edit) (router : �
       n.says in
       ap (λ (l : List FileCommand). face_of (map bare (flat_map grown_at l))) g.is ∙ ap (λ (l : List FileCommand). face_of (map bare (l ++ flat_map grown_at g.rest))) n.is ∙
       no-face n.first.command 0 (map bare (n.first ∷ (n.rest ++ flat_map grown_at g.rest))) quiet ∙
-      ap (map (face_with net chosen router)) (sym (no-face g.first.command 0 (map bare (g.first ∷ g.rest)) other)) ∙ ap (λ (l : List FileCommand). map (face_with net chosen router) (face_of (map bare l))) (sym g.is))
+      ap (map (face_with net chosen router)) (sym (no-face g.first.command 0 (map bare (g.first ∷ g.rest)) other))
+      ∙ ap (λ (l : List FileCommand). map (face_with net chosen router) (face_of (map bare l))) (sym g.is))
       (cases_Bool (heads_face g.first.command))

@@ -101,7 +101,8 @@ module _ (sequences : (ws : List (List ℕ)) (list : List ℕ) (n : ℕ) (entry 
       let (command, among, is) = from_map (λ (k : Command). (own.process, k)) (commands_of_new_lists net chosen router) item there in
       let (named, in_named, has) = from_piece (λ (n : NewList × List ℕ). new_list_commands chosen n.0 n.1) (named_lists net chosen router) command among in
       let name = all-of (IsNewName chosen) (named_lists net chosen router) file.names named in_named in
-      subst (λ (p : ℕ × Command). IsFit (line_of p.1)) is (all-of (λ (k : Command). IsFit (line_of k)) (new_list_commands chosen named.0 named.1) (new-lines-fit chosen named.0 named.1 name) command has)
+      subst (λ (p : ℕ × Command). IsFit (line_of p.1)) is
+      (all-of (λ (k : Command). IsFit (line_of k)) (new_list_commands chosen named.0 named.1) (new-lines-fit chosen named.0 named.1 name) command has)
 
   before-fit : (item : ℕ × Command) → Contains (commands_before net own chosen router) item → IsFit (line_of item.1)
   before-fit item there = ⊎_elim (news-fit item) (λ entry. (table-entry net places chosen router text lines cs file item entry).fit)
@@ -137,7 +138,8 @@ module _ (sequences : (ws : List (List ℕ)) (list : List ℕ) (n : ℕ) (entry 
           let n = new-row sequences net places chosen router text lines cs file c a.among new more (ap (λ (j : ℕ). of_number j numbers) (sym a.line) ∙ is) in
           let at_word : slice_get row.words new.word ≡ Some n.span = ap (λ (x : Line). slice_get x.words new.word) (sym same) ∙ n.at in
           let line : rewritten text here.row n.span (decimal new.number) ≡ row_bytes text row (new ∷ more) =
-          ap (λ (x : Line). rewritten text x n.span (decimal new.number)) same ∙ sym (ap (λ (o : Option Span). option_map_or (λ (span : Span). rewritten text row span (decimal new.number)) o (part text row.span)) at_word) in
+          ap (λ (x : Line). rewritten text x n.span (decimal new.number)) same
+          ∙ sym (ap (λ (o : Option Span). option_map_or (λ (span : Span). rewritten text row span (decimal new.number)) o (part text row.span)) at_word) in
           let site : Site = record { tops = []; entries = []; line = rewritten text here.row n.span (decimal new.number); command = with_number c.command (new ∷ more); after = [] } in
           let d = n.renumbered more site refl refl in
           record {
@@ -147,7 +149,8 @@ module _ (sequences : (ws : List (List ℕ)) (list : List ℕ) (n : ℕ) (entry 
           }
 
   -- a row may stand so
-  fits-at : (is : IsLineEnd end) (k : ℕ) (row : Line) → slice_get lines.rows k ≡ Some row → IsEnded (ended_row text row) ⊎ IsUnended (ended_row text row) → Fits text end before numbers after (1 + k, row)
+  fits-at : (is : IsLineEnd end) (k : ℕ) (row : Line) → slice_get lines.rows k ≡ Some row → IsEnded (ended_row text row) ⊎ IsUnended (ended_row text row) →
+      Fits text end before numbers after (1 + k, row)
   fits-at is k row at fact =
       let within : LiesWithin text row = row-within text lines k row file.are at in
       let b : Bytes row (row_bytes text row (of_number (1 + k) numbers)) = bytes-at k row at in

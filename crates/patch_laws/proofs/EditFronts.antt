@@ -76,14 +76,16 @@ pub no-entries : (g : List FileCommand) → entries g ≡ [] → (c : FileComman
 no-entries [] is c there = absurd (Contains-none c there)
 no-entries (d ∷ g) is c there = by (is_entry d.command) refl is (λ e later. no-entries g e c later)
   where
-    by : (b : Bool) → is_entry d.command ≡ b → cons_option (if is_entry d.command then Some (given d) else None) (entries g) ≡ [] → (entries g ≡ [] → Contains g c → is_entry c.command ≡ false) → is_entry c.command ≡ false
+    by : (b : Bool) → is_entry d.command ≡ b → cons_option (if is_entry d.command then Some (given d) else None) (entries g) ≡ [] →
+        (entries g ≡ [] → Contains g c → is_entry c.command ≡ false) → is_entry c.command ≡ false
     by true entry now deeper = absurd (no-items (given d) (entries g) (sym now ∙ ap (λ (b : Bool). cons_option (if b then Some (given d) else None) (entries g)) entry))
     by false none now deeper = ⊎_elim
         (λ (here : d ≡ c). ap (λ (x : FileCommand). is_entry x.command) (sym here) ∙ none)
         (λ later. deeper (sym (ap (λ (b : Bool). cons_option (if b then Some (given d) else None) (entries g)) none) ∙ now) later)
         (Contains-cases d c g there)
 
-module _ (net : Network) (places : List Places) (chosen : List Edit) (router : ℕ) (text : List ℕ) (lines : Lines) (cs : List FileCommand) (f : IsEditedFile net places chosen router text lines cs) where
+module _ (net : Network) (places : List Places) (chosen : List Edit) (router : ℕ) (text : List ℕ) (lines : Lines) (cs : List FileCommand)
+    (f : IsEditedFile net places chosen router text lines cs) where
   abbrev grown_at : FileCommand → List FileCommand
   grown_at c = grow_at net places chosen router text lines cs c
 
@@ -105,7 +107,8 @@ module _ (net : Network) (places : List Places) (chosen : List Edit) (router : �
             absurd (false≢true (sym (no-entries (members cs q) none c there) ∙ at.entry))
 
     -- only the first entry of a list has new ones
-    pub none-elsewhere : (e : Given Command) (more : List (Given Command)) → entries (members cs q) ≡ e ∷ more → (c : FirstOf (members cs q) e) (d : FileCommand) → Contains (members cs q) d → d.line ≢ c.command.line → new_entries d ≡ []
+    pub none-elsewhere : (e : Given Command) (more : List (Given Command)) → entries (members cs q) ≡ e ∷ more → (c : FirstOf (members cs q) e) (d : FileCommand) →
+        Contains (members cs q) d → d.line ≢ c.command.line → new_entries d ≡ []
     none-elsewhere e more es c d there other = by (new_entries d) refl
       where
         by : (ws : List Written) → new_entries d ≡ ws → ws ≡ []

@@ -1,5 +1,6 @@
 -- What edits put at the commands of a file are good sites.
-use Rattle.std.proofs.Common.{◌≡◌, ◌≢◌, ℕ, suc, ◌+◌, ◌-◌, ◌<◌, ◌≤◌, ◌==◌, ◌&&◌, ◌⊎◌, inl, inr, Bool, true, false, if◌then◌else◌, Option, Some, List, [], ◌∷◌, ◌++◌, length, map, refl, sym, ap, subst, ◌∙◌, arith, ⊎_elim, Contains, decimal, MatchBool}
+use Rattle.std.proofs.Common.{◌≡◌, ◌≢◌, ℕ, suc, ◌+◌, ◌-◌, ◌<◌, ◌≤◌, ◌==◌, ◌&&◌, ◌⊎◌, inl, inr, Bool, true, false, if◌then◌else◌, Option, Some, List, [], ◌∷◌, ◌++◌, length, map, refl, sym}
+use Rattle.std.proofs.Common.{ap, subst, ◌∙◌, arith, ⊎_elim, Contains, decimal, MatchBool}
 use Rattle.std.specs.Prelude.{slice_get, option_map}
 use Rattle.std.specs.Option.{option_map_or}
 use Rattle.std.specs.List.{AllByRecursion, flat_map}
@@ -7,6 +8,7 @@ use Rattle.std.proofs.lemmas.Bool.{eqb-true, eqb-false, ne_eqb, false≢true}
 use Rattle.std.proofs.lemmas.Option.{same_Some, slice_get-map, slice_get_within}
 use Rattle.std.proofs.lemmas.List.Elements.{Contains-append_cases}
 use Rattle.arc_base.specs.declared.span.Span.{Span}
+use Rattle.arc_base.proofs.Zips.{AllByRecursion-append}
 use Rattle.arc_base.proofs.Items.{Contains-cases, Contains-head, Contains-tail, from_map}
 use Rattle.net_model.specs.declared.rows.Network.{Network}
 use Rattle.ios_lines.specs.declared.line.Line.{Line}
@@ -36,7 +38,8 @@ use Rattle.line_patcher.specs.Additions.{entries_before, lines_after, numbers_at
 use Rattle.line_patcher.specs.Patches.{line_end, row_bytes}
 use Rattle.edit_list.specs.NewLists.{named_lists}
 use Rattle.patch_laws.specs.Written.{written_of}
-use Rattle.line_edit_laws.specs.Sites.{AreChunks, AreGood, Chunk, IsEntryOf, IsGood, IsInnerOf, IsOfBlock, IsRewrittenFor, IsSingleLine, Single, Site, Written, chunk_commands, in_block, new_commands, own_commands, says_other, site_commands}
+use Rattle.line_edit_laws.specs.Sites.{AreChunks, AreGood, Chunk, IsEntryOf, IsGood, IsInnerOf, IsOfBlock, IsRewrittenFor, IsSingleLine, Single, Site, Written, chunk_commands, in_block}
+use Rattle.line_edit_laws.specs.Sites.{new_commands, own_commands, says_other, site_commands}
 use Rattle.patch_laws.specs.EditFiles.{IsEditedFile}
 use Rattle.patch_laws.specs.EditSiteLaws.{own_places}
 use Rattle.patch_laws.specs.EditSites.{entries_at, new_key, put, singles, with_number}
@@ -187,7 +190,8 @@ module _ (sequences : (ws : List (List ℕ)) (list : List ℕ) (n : ℕ) (entry 
 
   own-clear : (j : ℕ) (c : FileCommand) → c.block ≢ j → AllByRecursion (λ (v : FileCommand). is_same (Block j) (part_of v) ≡ false) (own_commands c (site c))
   own-clear j c other = all-from (λ (v : FileCommand). is_same (Block j) (part_of v) ≡ false) (own_commands c (site c)) (λ v there. ⊎_elim
-      (λ entries. let (w, has, is) = from_map (in_block c.block) (site c).entries v entries in subst (λ (x : FileCommand). is_same (Block j) (part_of x) ≡ false) is (not-part j c.block w.command other))
+      (λ entries. let (w, has, is) = from_map (in_block c.block) (site c).entries v entries in subst (λ (x : FileCommand). is_same (Block j) (part_of x) ≡ false) is
+      (not-part j c.block w.command other))
       (λ more. ⊎_elim
       (λ itself. subst (λ (x : FileCommand). is_same (Block j) (part_of x) ≡ false) itself (not-part j c.block (site c).command other))
       (λ ends. let (w, has, is) = from_map (in_block c.block) (site c).after v ends in subst (λ (x : FileCommand). is_same (Block j) (part_of x) ≡ false) is (not-part j c.block w.command other))
@@ -198,10 +202,6 @@ module _ (sequences : (ws : List (List ℕ)) (list : List ℕ) (n : ℕ) (entry 
   single-clear j [] other = tt
   single-clear j (w ∷ ws) other = (not-part j 0 w.command other, single-clear j ws other)
 
-  all-both : {X : Type 0} (P : X → Type 0) (xs ys : List X) → AllByRecursion P xs → AllByRecursion P ys → AllByRecursion P (xs ++ ys)
-  all-both P [] ys one two = two
-  all-both P (x ∷ xs) ys one two = (one.0, all-both P xs ys one.1 two)
-
   abbrev IsClear : ℕ → FileCommand → Type 0
   IsClear j v = is_same (Block j) (part_of v) ≡ false
 
@@ -211,11 +211,13 @@ module _ (sequences : (ws : List (List ℕ)) (list : List ℕ) (n : ℕ) (entry 
   later-clear (d ∷ ds) each j low =
       let (among, other) = each d (Contains-head d ds) in
       let block = low-block d among in
-      all-both (IsClear j) (site_commands d (site d)) (new_commands site ds)
-      (all-both (IsClear j) (flat_map chunk_commands (site d).tops) (own_commands d (site d)) (tops-clear (own.process == d.line) (ne_eqb own.process d.line other)) (own-clear j d (λ same. omega arith)))
+      AllByRecursion-append (IsClear j) (site_commands d (site d)) (new_commands site ds)
+      (AllByRecursion-append (IsClear j) (flat_map chunk_commands (site d).tops) (own_commands d (site d)) (tops-clear (own.process == d.line) (ne_eqb own.process d.line other))
+      (own-clear j d (λ same. omega arith)))
       (later-clear ds (λ x there. each x (Contains-tail d x ds there)) j low)
     where
-      tops-clear : (b : Bool) → b ≡ false → AllByRecursion (IsClear j) (flat_map chunk_commands ((if b then list_chunks chosen (new_key lines) (named_lists net chosen router) else []) ++ map Single (singles net own chosen router d)))
+      tops-clear : (b : Bool) → b ≡ false → AllByRecursion (IsClear j)
+          (flat_map chunk_commands ((if b then list_chunks chosen (new_key lines) (named_lists net chosen router) else []) ++ map Single (singles net own chosen router d)))
       tops-clear true e = absurd (false≢true (sym e))
       tops-clear false e = single-clear j (singles net own chosen router d) (λ same. omega arith)
 
@@ -250,14 +252,16 @@ module _ (sequences : (ws : List (List ℕ)) (list : List ℕ) (n : ℕ) (entry 
             chunks-append c.line later new []
                 (new-chunks-good chosen c.line (new_key lines) later (named_lists net chosen router) file.names (low-line c among) (λ j low.
                 let block = low-block c among in
-                all-both (IsClear j) (own_commands c (site c)) (new_commands site ds) (own-clear j c (λ same. omega arith))
+                AllByRecursion-append (IsClear j) (own_commands c (site c)) (new_commands site ds) (own-clear j c (λ same. omega arith))
                 (later-clear ds (λ d there. let (has, over) = each d there in (has, λ same. omega arith)) j low))) tt,
           )
       by false is true top = inr (refl, inl (eqb-true c.block 0 top), single-chunks c.line later at (all-from IsSingleLine at (single-there c among (eqb-true c.block 0 top))))
       by false is false inside = inl refl
 
   -- the line of the command itself
-  good-line : (c : FileCommand) (among : Contains cs c) → (((site c).line ≡ part text (r sequences net places chosen router text lines cs file c among).row.span) × ((site c).command ≡ c.command)) ⊎ IsRewrittenFor cs c (part text (r sequences net places chosen router text lines cs file c among).row.span) (site c)
+  good-line : (c : FileCommand) (among : Contains cs c) →
+      (((site c).line ≡ part text (r sequences net places chosen router text lines cs file c among).row.span) × ((site c).command ≡ c.command)) ⊎ IsRewrittenFor cs c
+      (part text (r sequences net places chosen router text lines cs file c among).row.span) (site c)
   good-line c among = by (of_number c.line numbers) refl
     where
       row : CommandRow text lines cs c
@@ -273,7 +277,8 @@ module _ (sequences : (ws : List (List ℕ)) (list : List ℕ) (n : ℕ) (entry 
       ends x xs is = ends-block net places chosen router text lines cs file c among x (subst (λ (l : List (List ℕ)). Contains l x) (sym is) (Contains-head x xs))
 
       -- a line with no new number: if it gains an end, a carriage return at its end is a part of that
-      kept : (b : Bool) (ls : List (List ℕ)) → of_number c.line after ≡ ls → (site c).line ≡ (if b then hung_line end (part text row.row.span) ls else part text row.row.span) → (site c).command ≡ c.command →
+      kept : (b : Bool) (ls : List (List ℕ)) → of_number c.line after ≡ ls → (site c).line ≡ (if b then hung_line end (part text row.row.span) ls else part text row.row.span) →
+          (site c).command ≡ c.command →
           (((site c).line ≡ part text row.row.span) × ((site c).command ≡ c.command)) ⊎ IsRewrittenFor cs c (part text row.row.span) (site c)
       kept false ls is line_is says = inl (line_is, says)
       kept true [] is line_is says = inl (line_is, says)
@@ -297,8 +302,10 @@ module _ (sequences : (ws : List (List ℕ)) (list : List ℕ) (n : ℕ) (entry 
       by [] is = kept (row.row.end == 0) (of_number c.line after) refl (line-is [] is) (ap (with_number c.command) is)
       by (new ∷ more) is =
           let n = new-row sequences net places chosen router text lines cs file c among new more is in
-          let bytes : row_bytes text row.row (new ∷ more) ≡ rewritten text row.row n.span (decimal new.number) = ap (λ (o : Option Span). option_map_or (λ (span : Span). rewritten text row.row span (decimal new.number)) o (part text row.row.span)) n.at in
-          let hung : row_line text end row.row (new ∷ more) (of_number c.line after) ≡ row_bytes text row.row (new ∷ more) = whole (row_bytes text row.row (new ∷ more)) n.stands (row.row.end == 0) (of_number c.line after) refl in
+          let bytes : row_bytes text row.row (new ∷ more) ≡ rewritten text row.row n.span (decimal new.number) =
+          ap (λ (o : Option Span). option_map_or (λ (span : Span). rewritten text row.row span (decimal new.number)) o (part text row.row.span)) n.at in
+          let hung : row_line text end row.row (new ∷ more) (of_number c.line after) ≡ row_bytes text row.row (new ∷ more) =
+          whole (row_bytes text row.row (new ∷ more)) n.stands (row.row.end == 0) (of_number c.line after) refl in
           inr (n.renumbered more (site c) (line-is (new ∷ more) is ∙ hung ∙ bytes) (ap (with_number c.command) is)).other
 
   pub good-at : (c : FileCommand) (among : Contains cs c) (ds : List FileCommand) → ((d : FileCommand) → Contains ds d → Contains cs d × (c.line < d.line)) →
@@ -311,7 +318,8 @@ module _ (sequences : (ws : List (List ℕ)) (list : List ℕ) (n : ℕ) (entry 
   }
 
   -- the lines from a number on
-  good-from : (n : ℕ) (ls : List (List ℕ)) (ds : List FileCommand) → ((k : ℕ) (l : List ℕ) → slice_get ls k ≡ Some l → slice_get (text_lines text) (n + k) ≡ Some l) → Rising (n + 1) ds → ((d : FileCommand) → Contains ds d → Contains cs d) →
+  good-from : (n : ℕ) (ls : List (List ℕ)) (ds : List FileCommand) → ((k : ℕ) (l : List ℕ) → slice_get ls k ≡ Some l → slice_get (text_lines text) (n + k) ≡ Some l) →
+      Rising (n + 1) ds → ((d : FileCommand) → Contains ds d → Contains cs d) →
       AreGood cs site (n + 1) ls ds
   good-from n [] ds shown up all = tt
   good-from n (l ∷ ls) [] shown up all = tt
@@ -325,10 +333,12 @@ module _ (sequences : (ws : List (List ℕ)) (list : List ℕ) (n : ℕ) (entry 
           let among : Contains cs c = all c (Contains-head c ds) in
           let row = r sequences net places chosen router text lines cs file c among in
           let here : slice_get (text_lines text) row.place ≡ Some (part text row.row.span) =
-          ap (λ (xs : List (List ℕ)). slice_get xs row.place) (sym file.are.texts) ∙ slice_get-map (λ (x : Line). part text x.span) lines.rows row.place ∙ ap (option_map (λ (x : Line). part text x.span)) row.at in
+          ap (λ (xs : List (List ℕ)). slice_get xs row.place) (sym file.are.texts) ∙ slice_get-map (λ (x : Line). part text x.span) lines.rows row.place
+          ∙ ap (option_map (λ (x : Line). part text x.span)) row.at in
           let place : n + 0 ≡ row.place = (let number = row.number in omega arith) in
           let same : part text row.row.span ≡ l = same_Some (part text row.row.span) l (sym here ∙ ap (slice_get (text_lines text)) (sym place) ∙ shown 0 l refl) in (
-            subst (λ (x : List ℕ). IsGood cs c x (site c) (new_commands site ds)) same (good-at c among ds (λ d there. (all d (Contains-tail c d ds there), (let over = rising-low (c.line + 1) ds d up.1 there in omega arith)))),
+            subst (λ (x : List ℕ). IsGood cs c x (site c) (new_commands site ds)) same
+                (good-at c among ds (λ d there. (all d (Contains-tail c d ds there), (let over = rising-low (c.line + 1) ds d up.1 there in omega arith)))),
             deeper ds (subst (λ (j : ℕ). Rising (j + 1) ds) line up.1) (λ d there. all d (Contains-tail c d ds there)),
           )
       by false e deeper =

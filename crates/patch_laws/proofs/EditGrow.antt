@@ -1,5 +1,6 @@
 -- What edits put at the commands of a file are commands of their parts, but for new lists, which stand before the head of the process.
-use Rattle.std.proofs.Common.{◌≡◌, ◌≢◌, ℕ, ◌+◌, ◌≤◌, ◌==◌, ◌⊎◌, inl, inr, if◌then◌else◌, Bool, true, false, List, [], ◌∷◌, ◌++◌, length, map, refl, sym, ap, subst, ◌∙◌, arith, ⊎_elim, Contains, append_assoc}
+use Rattle.std.proofs.Common.{◌≡◌, ◌≢◌, ℕ, ◌+◌, ◌≤◌, ◌==◌, ◌⊎◌, inl, inr, if◌then◌else◌, Bool, true, false, List, [], ◌∷◌, ◌++◌, length, map, refl, sym, ap, subst, ◌∙◌, arith, ⊎_elim}
+use Rattle.std.proofs.Common.{Contains, append_assoc}
 use Rattle.std.specs.List.{AllByRecursion, flat_map}
 use Rattle.std.proofs.lemmas.Bool.{cases_Bool, eqb-true, eq-eqb, ne_eqb}
 use Rattle.std.proofs.lemmas.List.{length-map}
@@ -37,6 +38,7 @@ use Rattle.patch_laws.specs.EditSites.{added, ends_at, entries_at, grow, new_key
 use Rattle.patch_laws.specs.NewListSites.{list_chunks, new_chunks}
 use Rattle.patch_laws.proofs.EditParts.{entry-at, end-at, end-part, all-in}
 use Rattle.patch_laws.proofs.EditBusy.{process-here, process-line}
+use Rattle.patch_laws.proofs.EditEntries.{all-from}
 use Rattle.patch_laws.proofs.FileParts.{rising, prefix-command, listed}
 use Rattle.patch_laws.proofs.NewListGroups.{part_for, segment-of, single-commands}
 
@@ -94,7 +96,8 @@ added-part chosen key (n ∷ ns) t there =
     (subst (λ (l : List FileCommand). Contains l t) (flat_map-append chunk_commands (new_chunks chosen key n.0 n.1) (list_chunks chosen (key + 1) ns)) there))
     (added-part chosen (key + 1) ns t)
   where
-    by : Contains (flat_map chunk_commands (new_chunks chosen key n.0 n.1)) t ⊎ Contains (flat_map chunk_commands (list_chunks chosen (key + 1) ns)) t → (Contains (flat_map chunk_commands (list_chunks chosen (key + 1) ns)) t → AddedPart (key + 1) ns t) →
+    by : Contains (flat_map chunk_commands (new_chunks chosen key n.0 n.1)) t ⊎ Contains (flat_map chunk_commands (list_chunks chosen (key + 1) ns)) t →
+        (Contains (flat_map chunk_commands (list_chunks chosen (key + 1) ns)) t → AddedPart (key + 1) ns t) →
         AddedPart key (n ∷ ns) t
     by (inl early) deeper = record {
       named = n;
@@ -106,10 +109,6 @@ added-part chosen key (n ∷ ns) t there =
     by (inr late) deeper =
         let a = deeper late in
         record { named = a.named; among = Contains-tail n a.named ns a.among; number = a.number; high = (let high = a.high in omega (arith, high)); part = a.part }
-
-all-from : {X : Type 0} (P : X → Type 0) (xs : List X) → ((x : X) → Contains xs x → P x) → AllByRecursion P xs
-all-from P [] each = tt
-all-from P (x ∷ xs) each = (each x (Contains-head x xs), all-from P xs (λ y there. each y (Contains-tail x y xs there)))
 
 all-mapped : {X Y : Type 0} (P : Y → Type 0) (h : X → Y) (xs : List X) → ((x : X) → Contains xs x → P (h x)) → AllByRecursion P (map h xs)
 all-mapped P h [] each = tt
@@ -157,11 +156,13 @@ module _ (net : Network) (places : List Places) (chosen : List Edit) (router : �
   site-is c =
       let tops = new_tops net own chosen router (new_key lines) c in
       let mine = map Single (singles net own chosen router c) in
-      ap (λ (l : List FileCommand). l ++ own_commands c (put_at c)) (flat_map-append chunk_commands tops mine) ∙ append_assoc (flat_map chunk_commands tops) (flat_map chunk_commands mine) (own_commands c (put_at c))
+      ap (λ (l : List FileCommand). l ++ own_commands c (put_at c)) (flat_map-append chunk_commands tops mine)
+      ∙ append_assoc (flat_map chunk_commands tops) (flat_map chunk_commands mine) (own_commands c (put_at c))
 
   other-site : (c : FileCommand) → c.line ≢ own.process → site_commands c (put_at c) ≡ grow_at c
   other-site c other =
-      site-is c ∙ ap (λ (b : Bool). flat_map chunk_commands (if b then list_chunks chosen (new_key lines) (named_lists net chosen router) else []) ++ grow_at c) (ne_eqb own.process c.line (λ same. other (sym same)))
+      site-is c ∙ ap (λ (b : Bool). flat_map chunk_commands (if b then list_chunks chosen (new_key lines) (named_lists net chosen router) else []) ++ grow_at c)
+      (ne_eqb own.process c.line (λ same. other (sym same)))
 
   head-site : (c : FileCommand) → c.line ≡ own.process → site_commands c (put_at c) ≡ more_at ++ grow_at c
   head-site c same =
@@ -196,8 +197,10 @@ module _ (net : Network) (places : List Places) (chosen : List Edit) (router : �
     pub is-grown : (c : FileCommand) → Contains cs c → IsGrown grow_at c
     is-grown c has = record {
       own = subst (AllByRecursion (λ (v : FileCommand). part_of v ≡ part_of c)) (sym (grow-is c))
-          (AllByRecursion-append (λ (v : FileCommand). part_of v ≡ part_of c) (map (in_block c.block) (entries_at net own chosen router c)) (says_other c (new_at c) ∷ map (in_block c.block) (after_at c))
-          (all-mapped (λ (v : FileCommand). part_of v ≡ part_of c) (in_block c.block) (entries_at net own chosen router c) (λ w there. (entry-at net places chosen router text lines cs f c w has there).part)) (
+          (AllByRecursion-append (λ (v : FileCommand). part_of v ≡ part_of c) (map (in_block c.block) (entries_at net own chosen router c))
+          (says_other c (new_at c) ∷ map (in_block c.block) (after_at c))
+          (all-mapped (λ (v : FileCommand). part_of v ≡ part_of c) (in_block c.block) (entries_at net own chosen router c)
+          (λ w there. (entry-at net places chosen router text lines cs f c w has there).part)) (
             with-number-part c.block c.command (of_number c.line (numbers_at net own chosen router)),
             all-mapped (λ (v : FileCommand). part_of v ≡ part_of c) (in_block c.block) (after_at c)
                 (λ w there. end-part net places chosen router text lines cs f c w has (end-at net places chosen router text lines cs f c w has there)),

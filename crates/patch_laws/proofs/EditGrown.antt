@@ -30,7 +30,8 @@ use Rattle.patch_laws.proofs.EditNames.{name-stays}
 use Rattle.patch_laws.proofs.EditOnce.{stands-once}
 use Rattle.patch_laws.proofs.NewListGroups.{new-lists-set}
 
-module _ (net : Network) (places : List Places) (chosen : List Edit) (router : ℕ) (text : List ℕ) (lines : Lines) (cs : List FileCommand) (f : IsEditedFile net places chosen router text lines cs) where
+module _ (net : Network) (places : List Places) (chosen : List Edit) (router : ℕ) (text : List ℕ) (lines : Lines) (cs : List FileCommand)
+    (f : IsEditedFile net places chosen router text lines cs) where
   abbrev grown_at : FileCommand → List FileCommand
   grown_at c = grow_at net places chosen router text lines cs c
 
@@ -40,13 +41,15 @@ module _ (net : Network) (places : List Places) (chosen : List Edit) (router : �
       (q : Part) (first : FileCommand) (rest : List FileCommand) (is : members cs q ≡ first ∷ rest) (x : List ℕ × ListKind × ListForm) (begun : list_begun first.command ≡ Some x) →
       shown (flat_map grown_at (members cs q)) ≡ map said (front_lines net chosen router (plain net places chosen router text lines cs f q first rest is x begun) x.1) ++ shown (members cs q)
 
-  lists : ListsShow → (q : Part) → Contains (distinct (map part_of cs)) q → map plain_list (list_of (map bare (flat_map grown_at (members cs q)))) ≡ map (list_with net chosen router) (map plain_list (list_of (map bare (members cs q))))
+  lists : ListsShow → (q : Part) → Contains (distinct (map part_of cs)) q →
+      map plain_list (list_of (map bare (flat_map grown_at (members cs q)))) ≡ map (list_with net chosen router) (map plain_list (list_of (map bare (members cs q))))
   lists show q known = by (list_begun g.first.command) refl
     where
       g : GroupOf cs q
       g = known-group cs q known
 
-      by : (o : Option (List ℕ × ListKind × ListForm)) → list_begun g.first.command ≡ o → map plain_list (list_of (map bare (flat_map grown_at (members cs q)))) ≡ map (list_with net chosen router) (map plain_list (list_of (map bare (members cs q))))
+      by : (o : Option (List ℕ × ListKind × ListForm)) → list_begun g.first.command ≡ o →
+          map plain_list (list_of (map bare (flat_map grown_at (members cs q)))) ≡ map (list_with net chosen router) (map plain_list (list_of (map bare (members cs q))))
       by None e = no-list-grows net places chosen router text lines cs f q g.first g.rest g.is e
       by (Some x) e = list-grows net places chosen router text lines cs f q g.first g.rest g.is x e (show q g.first g.rest g.is x e)
 
@@ -64,11 +67,14 @@ module _ (net : Network) (places : List Places) (chosen : List Edit) (router : �
         back_grown = all-grown net places chosen router text lines cs f back (in-back net places chosen router text lines cs f);
         fresh = are-fresh net places chosen router text lines cs f;
         edited = record {
-          faces = subst (λ (l : List FileCommand). (q : Part) → Contains (distinct (map part_of l)) q → face_of (map bare (flat_map grown_at (members l q))) ≡ map (face_with net chosen router) (face_of (map bare (members l q)))) s.parts
+          faces = subst (λ (l : List FileCommand). (q : Part) → Contains (distinct (map part_of l)) q →
+              face_of (map bare (flat_map grown_at (members l q))) ≡ map (face_with net chosen router) (face_of (map bare (members l q)))) s.parts
               (faces net places chosen router text lines cs f);
-          lists = subst (λ (l : List FileCommand). (q : Part) → Contains (distinct (map part_of l)) q → map plain_list (list_of (map bare (flat_map grown_at (members l q)))) ≡ map (list_with net chosen router) (map plain_list (list_of (map bare (members l q))))) s.parts
+          lists = subst (λ (l : List FileCommand). (q : Part) → Contains (distinct (map part_of l)) q →
+              map plain_list (list_of (map bare (flat_map grown_at (members l q)))) ≡ map (list_with net chosen router) (map plain_list (list_of (map bare (members l q))))) s.parts
               (lists show);
-          process = subst (λ (l : List FileCommand). (q : Part) → Contains (distinct (map part_of l)) q → process_of (map bare (flat_map grown_at (members l q))) ≡ map (process_with net chosen router) (process_of (map bare (members l q)))) s.parts
+          process = subst (λ (l : List FileCommand). (q : Part) → Contains (distinct (map part_of l)) q →
+              process_of (map bare (flat_map grown_at (members l q))) ≡ map (process_with net chosen router) (process_of (map bare (members l q)))) s.parts
               (processes net places chosen router text lines cs f);
           new_faces = new.faces;
           new_lists = new.lists;

@@ -1,5 +1,6 @@
 -- The lists of a network that edits put entries into stand in its files.
-use Rattle.std.proofs.Common.{◌≡◌, ◌≢◌, ℕ, ◌&&◌, ◌⊎◌, inl, inr, not, Bool, true, false, if◌then◌else◌, cond, Option, Some, None, List, [], ◌∷◌, ◌++◌, length, map, refl, sym, ap, subst, ◌∙◌, ⊎_elim, Contains, IsTrue, find}
+use Rattle.std.proofs.Common.{◌≡◌, ◌≢◌, ℕ, ◌&&◌, ◌⊎◌, inl, inr, not, Bool, true, false, if◌then◌else◌, cond, Option, Some, None, List, [], ◌∷◌, ◌++◌, length, map, refl, sym, ap, subst, ◌∙◌}
+use Rattle.std.proofs.Common.{⊎_elim, Contains, IsTrue, find}
 use Rattle.std.specs.Prelude.{slice_get, option_map, bytes_eq}
 use Rattle.std.specs.Option.{option_map_or}
 use Rattle.std.specs.List.{filter_map, flat_map, range_with_len, zip}
@@ -32,7 +33,8 @@ use Rattle.ios_config.specs.declared.settings.ListKind.TheVariants as list_kinds
 use Rattle.ios_config.specs.declared.settings.ListText.{ListText}
 use Rattle.ios_config.specs.Texts.{config_of, is_standard}
 use Rattle.net_build.specs.declared.built.ListPlace.{ListPlace}
-use Rattle.net_rules.specs.Lists.{IsPacketListRow, IsRouteListRow, has_entries, if_defined, is_extended_kind, is_of_kind, is_packet_kind, list_named, packet_row, packet_row_at, route_row, route_row_at}
+use Rattle.net_rules.specs.Lists.{IsPacketListRow, IsRouteListRow, has_entries, if_defined, is_extended_kind, is_of_kind, is_packet_kind, list_named, packet_row, packet_row_at, route_row}
+use Rattle.net_rules.specs.Lists.{route_row_at}
 use Rattle.net_build.specs.Places.{list_place}
 use Rattle.edit_list.specs.declared.edit_kinds.Edit.{Edit}
 use Rattle.edit_list.specs.declared.edit_kinds.Edit.TheVariants as edits
@@ -93,15 +95,18 @@ head-blocked (commands.ListLine n entry) = (λ e. inr refl, λ e. absurd (standa
 head-blocked (commands.PrefixLine n order entry) = (λ e. absurd (prefix-not-extended e), λ e. refl)
 head-blocked _ = tt
 
-forms-of : (cs : List FileCommand) (list : ListText) → Contains (config_of cs).lists list → (list.kind ≡ Extended → (list.form ≡ forms.Block) ⊎ (list.form ≡ forms.Lines)) × (list.kind ≡ list_kinds.Prefix → list.form ≡ forms.PrefixLines)
+forms-of : (cs : List FileCommand) (list : ListText) → Contains (config_of cs).lists list →
+    (list.kind ≡ Extended → (list.form ≡ forms.Block) ⊎ (list.form ≡ forms.Lines)) × (list.kind ≡ list_kinds.Prefix → list.form ≡ forms.PrefixLines)
 forms-of cs list there = let h = list-group cs list there in subst Blocked h.begun (head-blocked h.first.command)
 
 -- a list that is found is found at its place
-found-place : (p : ListPlace → Bool) (q : ListText → Bool) (ls : List ListText) (l : ListText) → ((x : ListText) → Contains ls x → p (list_place x) ≡ q x) → find q ls ≡ Some l → find p (map list_place ls) ≡ Some (list_place l)
+found-place : (p : ListPlace → Bool) (q : ListText → Bool) (ls : List ListText) (l : ListText) → ((x : ListText) → Contains ls x → p (list_place x) ≡ q x) → find q ls ≡ Some l →
+    find p (map list_place ls) ≡ Some (list_place l)
 found-place p q [] l same e = absurd (none-some l e)
 found-place p q (x ∷ ls) l same e = by (p (list_place x)) (q x) (same x (Contains-head x ls)) e (found-place p q ls l (λ y there. same y (Contains-tail x y ls there)))
   where
-    by : (a b : Bool) → a ≡ b → cond b (Some x) (find q ls) ≡ Some l → (find q ls ≡ Some l → find p (map list_place ls) ≡ Some (list_place l)) → cond a (Some (list_place x)) (find p (map list_place ls)) ≡ Some (list_place l)
+    by : (a b : Bool) → a ≡ b → cond b (Some x) (find q ls) ≡ Some l → (find q ls ≡ Some l → find p (map list_place ls) ≡ Some (list_place l)) →
+        cond a (Some (list_place x)) (find p (map list_place ls)) ≡ Some (list_place l)
     by true true s e deeper = ap (option_map {U = ListPlace} list_place) e
     by false false s e deeper = deeper e
     by true false s e deeper = absurd (false≢true (sym s))
@@ -119,10 +124,12 @@ some-entries : (es : List (Given Command)) → has_entries es ≡ true → es �
 some-entries [] is none = false≢true is
 some-entries (e ∷ es) is none = absurd cc
 
-row-defined : {R : Type 0} (packet : Bool) (config : Config) (name : List ℕ) (make : ListText → R) (row : R) → option_map make (if_defined (list_named packet config name)) ≡ Some row → (l : ListText) × Defined packet config name l × (make l ≡ row)
+row-defined : {R : Type 0} (packet : Bool) (config : Config) (name : List ℕ) (make : ListText → R) (row : R) → option_map make (if_defined (list_named packet config name)) ≡ Some row →
+    (l : ListText) × Defined packet config name l × (make l ≡ row)
 row-defined {R} packet config name make row e = by (list_named packet config name) refl e
   where
-    inner : (l : ListText) → list_named packet config name ≡ Some l → (b : Bool) → has_entries l.entries ≡ b → option_map make (if b then Some l else None) ≡ Some row → (x : ListText) × Defined packet config name x × (make x ≡ row)
+    inner : (l : ListText) → list_named packet config name ≡ Some l → (b : Bool) → has_entries l.entries ≡ b → option_map make (if b then Some l else None) ≡ Some row →
+        (x : ListText) × Defined packet config name x × (make x ≡ row)
     inner l found false has e = absurd (none-some row e)
     inner l found true has e =
         let f = find_in (λ (list : ListText). bytes_eq list.name name && is_of_kind packet list) config.lists l found in
@@ -157,7 +164,8 @@ module _ (cs : List FileCommand) (lines : HaveListLines cs) (router : ℕ) (conf
       record {
         list = l;
         among = d.among;
-        place = found-place (λ (place : ListPlace). bytes_eq place.name row.name && is_packet_form place.form) (λ (list : ListText). bytes_eq list.name row.name && is_of_kind true list) (config_of cs).lists l
+        place = found-place (λ (place : ListPlace). bytes_eq place.name row.name && is_packet_form place.form) (λ (list : ListText). bytes_eq list.name row.name && is_of_kind true list)
+            (config_of cs).lists l
             (λ x there. ap (λ (b : Bool). bytes_eq x.name row.name && b) (form-kind cs x there)) d.found;
         name = d.named;
         kind = kind;
@@ -176,7 +184,8 @@ module _ (cs : List FileCommand) (lines : HaveListLines cs) (router : ℕ) (conf
       record {
         list = l;
         among = d.among;
-        place = found-place (λ (place : ListPlace). bytes_eq place.name row.name && not (is_packet_form place.form)) (λ (list : ListText). bytes_eq list.name row.name && is_of_kind false list) (config_of cs).lists l
+        place = found-place (λ (place : ListPlace). bytes_eq place.name row.name && not (is_packet_form place.form))
+            (λ (list : ListText). bytes_eq list.name row.name && is_of_kind false list) (config_of cs).lists l
             (λ x there. ap (λ (b : Bool). bytes_eq x.name row.name && not b) (form-kind cs x there)) d.found;
         name = d.named;
         kind = kind;
@@ -293,4 +302,5 @@ module _ (net : Network) (id : ℕ) (row : PacketList) (at : slice_get net.packe
           let s = from_piece (λ site. map (packet_edit site) (writable_classes classes)) (packet_sites net) e packets in
           let c = from_map (packet_edit s.0) (writable_classes classes) e s.2 in
           site-extended s.0 s.1 (sym (site-edit s.0 c.0) ∙ ap packet_of c.2 ∙ is))
-          (Contains-append_cases (flat_map (link_edits net) net.links ++ flat_map (λ site. map (route_edit site) destinations) (route_sites net)) (flat_map (λ site. map (packet_edit site) (writable_classes classes)) (packet_sites net)) e there)
+          (Contains-append_cases (flat_map (link_edits net) net.links ++ flat_map (λ site. map (route_edit site) destinations) (route_sites net))
+          (flat_map (λ site. map (packet_edit site) (writable_classes classes)) (packet_sites net)) e there)

@@ -39,10 +39,11 @@ use Rattle.settings_edit_laws.proofs.NewNames.{new_of_named}
 use Rattle.settings_edit_laws.proofs.Pairs.{any_of}
 use Rattle.arc_base.proofs.Zips.{AllZip-left}
 use Rattle.patch_laws.specs.EditFiles.{HasFace}
-use Rattle.patch_laws.proofs.EditRenumber.{at-enumerated}
+use Rattle.patch_laws.proofs.EditBusy.{at-enumerated}
 
 -- the interfaces of all files have their places
-own-places : (router : ℕ) (config : Config) (fs : List FaceText) → map face_place fs ≡ map (λ (s : Site). face_place s.face) (map (λ (face : FaceText). record { router = router; config = config; face = face }) fs)
+own-places : (router : ℕ) (config : Config) (fs : List FaceText) →
+    map face_place fs ≡ map (λ (s : Site). face_place s.face) (map (λ (face : FaceText). record { router = router; config = config; face = face }) fs)
 own-places router config [] = refl
 own-places router config (f ∷ fs) = ap (λ l. face_place f ∷ l) (own-places router config fs)
 
@@ -60,7 +61,8 @@ module _ (doc : Document) (files : List (List ℕ)) (built : Built) (was : IsBui
   configs = was.network.configs
 
   -- the interface of a new packet list
-  pub has-face : (chosen : List Edit) → IsValid net → IsCountable net → (cs : List FileCommand) → config ≡ config_of cs → (face : Face) (name : List ℕ) → Contains (named_lists net chosen router) (Packet face, name) → HasFace net built.places router cs face.0
+  pub has-face : (chosen : List Edit) → IsValid net → IsCountable net → (cs : List FileCommand) → config ≡ config_of cs → (face : Face) (name : List ℕ) →
+      Contains (named_lists net chosen router) (Packet face, name) → HasFace net built.places router cs face.0
   has-face chosen valid small cs set face name there =
       let new = new_of_named net valid small chosen router (Packet face, name) there in
       let f = of_packet_face net valid chosen router face name new in

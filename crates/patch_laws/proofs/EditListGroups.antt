@@ -1,5 +1,6 @@
 -- The lists of a file grow by the entries that edits put before their first ones.
-use Rattle.std.proofs.Common.{◌≡◌, ◌≢◌, ℕ, ◌+◌, ◌<◌, ◌⊎◌, inl, inr, Bool, true, false, if◌then◌else◌, Option, Some, None, List, [], ◌∷◌, ◌++◌, map, refl, sym, ap, subst, ◌∙◌, arith, ⊎_elim, Contains, append_assoc}
+use Rattle.std.proofs.Common.{◌≡◌, ◌≢◌, ℕ, ◌+◌, ◌<◌, ◌⊎◌, inl, inr, Bool, true, false, if◌then◌else◌, Option, Some, None, List, [], ◌∷◌, ◌++◌, map, refl, sym, ap, subst, ◌∙◌, arith, ⊎_elim}
+use Rattle.std.proofs.Common.{Contains, append_assoc}
 use Rattle.std.specs.List.{filter_map, flat_map}
 use Rattle.std.proofs.lemmas.Bool.{false≢true}
 use Rattle.std.proofs.lemmas.Option.{none-some}
@@ -36,11 +37,10 @@ use Rattle.line_edit_laws.specs.Sites.{Written, in_block, says_other}
 use Rattle.patch_laws.specs.EditFiles.{IsEditedFile}
 use Rattle.patch_laws.specs.EditSites.{entries_at, with_number}
 use Rattle.patch_laws.specs.ListsGrow.{list_begun}
-use Rattle.patch_laws.proofs.EditBlocks.{plainly, bare-written, members-of, grown-first, bare-plain}
+use Rattle.patch_laws.proofs.EditBlocks.{plainly, bare-written, heads-same, members-of, grown-first, bare-plain}
 use Rattle.patch_laws.proofs.EditGrow.{own, grow_at, after_at, new_at, grow-is}
 use Rattle.patch_laws.proofs.EditParts.{EndAt, OfProcess, OfFace, end-at, block-own}
-use Rattle.patch_laws.proofs.FileParts.{made, by-head}
-use Rattle.patch_laws.proofs.ListsGrow.{lists-grow}
+use Rattle.patch_laws.proofs.ListsGrow.{made, by-head, lists-grow}
 
 -- the entries of commands without numbers
 abbrev pub shown : List FileCommand → List (Given Command)
@@ -53,7 +53,8 @@ written ws = map plain_entry (entries (map plainly ws))
 shown-append : (xs ys : List FileCommand) → shown (xs ++ ys) ≡ shown xs ++ shown ys
 shown-append xs ys =
     let pick : FileCommand → Option (Given Command) = λ c. if is_entry c.command then Some (given c) else None in
-    ap (λ (l : List FileCommand). map plain_entry (entries l)) (map-append bare xs ys) ∙ ap (map plain_entry) (filter_map-append pick (map bare xs) (map bare ys)) ∙ map-append plain_entry (entries (map bare xs)) (entries (map bare ys))
+    ap (λ (l : List FileCommand). map plain_entry (entries l)) (map-append bare xs ys) ∙ ap (map plain_entry) (filter_map-append pick (map bare xs) (map bare ys))
+    ∙ map-append plain_entry (entries (map bare xs)) (entries (map bare ys))
 
 -- one command
 abbrev alone : Command → List (Given Command)
@@ -77,7 +78,8 @@ number-begun _ (n ∷ more) = refl
 -- an entry of the part of an entry that begins a list begins it too
 begun-entry : (b : ℕ) (u c : Command) (x : List ℕ × ListKind × ListForm) → is_entry u ≡ true → is_entry c ≡ true → part_in b u ≡ part_in b c → list_begun c ≡ Some x → list_begun u ≡ list_begun c
 begun-entry b (commands.ListLine name entry) (commands.ListLine other more) x is_u is_c same begun = let names : name ≡ other = cc in ap (λ (n : List ℕ). list_begun (commands.ListLine n more)) names
-begun-entry b (commands.PrefixLine name order entry) (commands.PrefixLine other number more) x is_u is_c same begun = let names : name ≡ other = cc in ap (λ (n : List ℕ). list_begun (commands.PrefixLine n number more)) names
+begun-entry b (commands.PrefixLine name order entry) (commands.PrefixLine other number more) x is_u is_c same begun = let names : name ≡ other =
+    cc in ap (λ (n : List ℕ). list_begun (commands.PrefixLine n number more)) names
 begun-entry b (commands.Entry order entry) (commands.ListLine other more) x is_u is_c same begun = absurd cc
 begun-entry b (commands.Entry order entry) (commands.PrefixLine other number more) x is_u is_c same begun = absurd cc
 begun-entry b (commands.ListLine name entry) (commands.PrefixLine other number more) x is_u is_c same begun = absurd cc
@@ -99,31 +101,33 @@ opens-none (commands.PrefixLine name order entry) within opens (inl is) = absurd
 opens-none (commands.PrefixLine name order entry) within opens (inr is) = absurd (let e : kinds.Inert ≡ kinds.Bgp = opens ∙ is in cc)
 opens-none _ within opens is = refl
 
-pub heads-same : (x y : FileCommand) (xs ys : List FileCommand) → x ∷ xs ≡ y ∷ ys → x ≡ y
-heads-same x y xs ys e = cc
-
 module _ (h : FileCommand → List FileCommand) (new : FileCommand → List Written) where
   -- commands of which each shows its new entries before itself
-  pub rest-plain : (g : List FileCommand) → ((c : FileCommand) → Contains g c → shown (h c) ≡ written (new c) ++ shown (c ∷ [])) → ((c : FileCommand) → Contains g c → new c ≡ []) → shown (flat_map h g) ≡ shown g
+  pub rest-plain : (g : List FileCommand) → ((c : FileCommand) → Contains g c → shown (h c) ≡ written (new c) ++ shown (c ∷ [])) → ((c : FileCommand) → Contains g c → new c ≡ []) →
+      shown (flat_map h g) ≡ shown g
   rest-plain [] each none = refl
   rest-plain (c ∷ g) each none =
       let one : shown (h c) ≡ shown (c ∷ []) = each c (Contains-head c g) ∙ ap (λ (ws : List Written). written ws ++ shown (c ∷ [])) (none c (Contains-head c g)) in
       let rest = rest-plain g (λ d there. each d (Contains-tail c d g there)) (λ d there. none d (Contains-tail c d g there)) in
       shown-append (h c) (flat_map h g) ∙ (λ i. one i ++ rest i) ∙ sym (shown-append (c ∷ []) g)
 
-  pub front-grows : (n : ℕ) (g : List FileCommand) (first : FileCommand) → Rising n g → Contains g first → ((c : FileCommand) → Contains g c → shown (h c) ≡ written (new c) ++ shown (c ∷ [])) → ((c : FileCommand) → Contains g c → c.line ≢ first.line → new c ≡ []) →
+  pub front-grows : (n : ℕ) (g : List FileCommand) (first : FileCommand) → Rising n g → Contains g first →
+      ((c : FileCommand) → Contains g c → shown (h c) ≡ written (new c) ++ shown (c ∷ [])) → ((c : FileCommand) → Contains g c → c.line ≢ first.line → new c ≡ []) →
       ((c : FileCommand) → Contains g c → c.line < first.line → is_entry c.command ≡ false) → shown (flat_map h g) ≡ written (new first) ++ shown g
   front-grows n [] first up has each none before = absurd (Contains-none first has)
   front-grows n (c ∷ g) first up has each none before =
       by (Contains-cases c first g has)
-      (λ later. front-grows (c.line + 1) g first up.1 later (λ d there. each d (Contains-tail c d g there)) (λ d there. none d (Contains-tail c d g there)) (λ d there. before d (Contains-tail c d g there)))
+      (λ later. front-grows (c.line + 1) g first up.1 later (λ d there. each d (Contains-tail c d g there)) (λ d there. none d (Contains-tail c d g there))
+      (λ d there. before d (Contains-tail c d g there)))
     where
       by : (c ≡ first) ⊎ Contains g first → (Contains g first → shown (flat_map h g) ≡ written (new first) ++ shown g) → shown (flat_map h (c ∷ g)) ≡ written (new first) ++ shown (c ∷ g)
       by (inl here) deeper =
           let one : shown (h c) ≡ written (new first) ++ shown (c ∷ []) = each c (Contains-head c g) ∙ ap (λ (d : FileCommand). written (new d) ++ shown (c ∷ [])) here in
           let rest = rest-plain g (λ d there. each d (Contains-tail c d g there))
-          (λ d there. none d (Contains-tail c d g there) (λ same. (let over = rising-low (c.line + 1) g d up.1 there in let at : c.line ≡ first.line = ap (λ (x : FileCommand). x.line) here in omega (arith, over, at, same)))) in
-          shown-append (h c) (flat_map h g) ∙ (λ i. one i ++ rest i) ∙ append_assoc (written (new first)) (shown (c ∷ [])) (shown g) ∙ ap (λ (l : List (Given Command)). written (new first) ++ l) (sym (shown-append (c ∷ []) g))
+          (λ d there. none d (Contains-tail c d g there)
+          (λ same. (let over = rising-low (c.line + 1) g d up.1 there in let at : c.line ≡ first.line = ap (λ (x : FileCommand). x.line) here in omega (arith, over, at, same)))) in
+          shown-append (h c) (flat_map h g) ∙ (λ i. one i ++ rest i) ∙ append_assoc (written (new first)) (shown (c ∷ [])) (shown g)
+          ∙ ap (λ (l : List (Given Command)). written (new first) ++ l) (sym (shown-append (c ∷ []) g))
       by (inr later) deeper =
           let over = rising-low (c.line + 1) g first up.1 later in
           let quiet : shown (c ∷ []) ≡ [] = no-entry c.command (before c (Contains-head c g) (omega (arith, over))) in
@@ -131,7 +135,8 @@ module _ (h : FileCommand → List FileCommand) (new : FileCommand → List Writ
           shown-append (h c) (flat_map h g) ∙ ap (λ (l : List (Given Command)). l ++ shown (flat_map h g)) one ∙ deeper later ∙
           ap (λ (l : List (Given Command)). written (new first) ++ l) (sym (shown-append (c ∷ []) g ∙ ap (λ (l : List (Given Command)). l ++ shown g) quiet))
 
-module _ (net : Network) (places : List Places) (chosen : List Edit) (router : ℕ) (text : List ℕ) (lines : Lines) (cs : List FileCommand) (f : IsEditedFile net places chosen router text lines cs) where
+module _ (net : Network) (places : List Places) (chosen : List Edit) (router : ℕ) (text : List ℕ) (lines : Lines) (cs : List FileCommand)
+    (f : IsEditedFile net places chosen router text lines cs) where
   abbrev grown_at : FileCommand → List FileCommand
   grown_at c = grow_at net places chosen router text lines cs c
 
@@ -151,7 +156,8 @@ module _ (net : Network) (places : List Places) (chosen : List Edit) (router : �
         of-head : (head : FileCommand) → Contains cs head → head.block ≡ head.line → head.block ≢ 0 → c.block ≡ head.line → list_begun head.command ≡ None → ⊥
         of-head head among own_head some block none =
             let part_head : part_of head ≡ Block head.line = block-own net places chosen router text lines cs f head among some ∙ ap Block own_head in
-            let part_c : part_of c ≡ Block head.line = block-own net places chosen router text lines cs f c (members-of cs q c there).0 (λ zero_block. some (own_head ∙ sym block ∙ zero_block)) ∙ ap Block block in
+            let part_c : part_of c ≡ Block head.line = block-own net places chosen router text lines cs f c (members-of cs q c there).0
+            (λ zero_block. some (own_head ∙ sym block ∙ zero_block)) ∙ ap Block block in
             let group = head-first (text_lines text) cs head f.stand among part_head in
             let same : first ≡ head = heads-same first head rest group.0 (sym is ∙ ap (members cs) (sym (members-of cs q c there).1 ∙ part_c) ∙ group.1) in
             none-some x (sym none ∙ ap (λ (y : FileCommand). list_begun y.command) (sym same) ∙ begun)
@@ -174,7 +180,8 @@ module _ (net : Network) (places : List Places) (chosen : List Edit) (router : �
         let front = map (in_block c.block) (new_entries c) in
         let whole : grown_at c ≡ front ++ m ∷ [] = grow-is net places chosen router text lines cs c ∙ ap (λ (l : List Written). front ++ (m ∷ map (in_block c.block) l)) (no-ends c there) in
         ap shown whole ∙ shown-append front (m ∷ []) ∙
-        (let one = ap (λ (l : List FileCommand). map plain_entry (entries l)) (bare-written c.block (new_entries c)) in let two = number-alone c.command (of_number c.line (numbers_at net own_at chosen router)) in λ i. one i ++ two i)
+        (let one = ap (λ (l : List FileCommand). map plain_entry (entries l)) (bare-written c.block (new_entries c)) in let two =
+        number-alone c.command (of_number c.line (numbers_at net own_at chosen router)) in λ i. one i ++ two i)
 
     -- the list of the group
     abbrev pub plain : ListText
@@ -187,7 +194,8 @@ module _ (net : Network) (places : List Places) (chosen : List Edit) (router : �
         let among = (members-of cs q first (subst (λ (l : List FileCommand). Contains l first) (sym is) (Contains-head first rest))).0 in
         let n = grown-first net places chosen router text lines cs f first among in
         let whole : flat_map grown_at (members cs q) ≡ n.first ∷ (n.rest ++ flat_map grown_at rest) = ap (flat_map grown_at) is ∙ ap (λ (l : List FileCommand). l ++ flat_map grown_at rest) n.is in
-        let was : map plain_list (list_of (map bare (first ∷ rest))) ≡ plain ∷ [] = ap (map plain_list) (by-head first.command (map bare (first ∷ rest)) ∙ ap (λ o. made o (map bare (first ∷ rest))) begun) in
+        let was : map plain_list (list_of (map bare (first ∷ rest))) ≡ plain ∷ [] =
+        ap (map plain_list) (by-head first.command (map bare (first ∷ rest)) ∙ ap (λ o. made o (map bare (first ∷ rest))) begun) in
         let same_begun : list_begun n.first.command ≡ list_begun first.command = ⊎_elim
         (λ entry. begun-entry n.block n.first.command first.command x entry.0 entry.1 entry.2 begun)
         (λ new. ap list_begun new ∙ number-begun first.command (of_number first.line (numbers_at net own_at chosen router)))
@@ -204,7 +212,9 @@ module _ (net : Network) (places : List Places) (chosen : List Edit) (router : �
       let there = subst (λ (l : List FileCommand). Contains l first) (sym is) (Contains-head first rest) in
       let one = bare-plain net places chosen router text lines cs f q first rest is none first there in
       let whole : map bare (flat_map grown_at (members cs q)) ≡ bare first ∷ (map plainly (ends_at first) ++ map bare (flat_map grown_at rest)) =
-      ap (λ (l : List FileCommand). map bare (flat_map grown_at l)) is ∙ map-append bare (grown_at first) (flat_map grown_at rest) ∙ ap (λ (l : List FileCommand). l ++ map bare (flat_map grown_at rest)) one in
+      ap (λ (l : List FileCommand). map bare (flat_map grown_at l)) is ∙ map-append bare (grown_at first) (flat_map grown_at rest)
+      ∙ ap (λ (l : List FileCommand). l ++ map bare (flat_map grown_at rest)) one in
       let empty = λ (l : List FileCommand). by-head first.command l ∙ ap (λ o. made o l) none in
       ap (λ (l : List FileCommand). map plain_list (list_of l)) whole ∙ ap (map plain_list) (empty (bare first ∷ (map plainly (ends_at first) ++ map bare (flat_map grown_at rest)))) ∙
-      ap (λ (l : List ListText). map (list_with net chosen router) (map plain_list l)) (sym (empty (map bare (first ∷ rest)))) ∙ ap (λ (l : List FileCommand). map (list_with net chosen router) (map plain_list (list_of (map bare l)))) (sym is)
+      ap (λ (l : List ListText). map (list_with net chosen router) (map plain_list l)) (sym (empty (map bare (first ∷ rest))))
+      ∙ ap (λ (l : List FileCommand). map (list_with net chosen router) (map plain_list (list_of (map bare l)))) (sym is)

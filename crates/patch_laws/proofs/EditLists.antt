@@ -18,17 +18,18 @@ use Rattle.ios_config.specs.declared.settings.ListForm.{ListForm}
 use Rattle.ios_config.specs.declared.settings.ListKind.{ListKind}
 use Rattle.ios_config.specs.declared.settings.ListText.{ListText}
 use Rattle.ios_config.specs.Groups.{Part, is_same, part_of, members, distinct, groups}
-use Rattle.ios_config.specs.Texts.{config_of, entries, given, is_entry, is_numbered, list_by, list_of, list_text}
+use Rattle.ios_config.specs.Texts.{config_of, entries, given, is_entry, is_numbered, list_of, list_text}
 use Rattle.ios_config.proofs.PartLists.{is_same-Decides}
 use Rattle.net_build.specs.declared.built.ListPlace.{ListPlace}
 use Rattle.net_build.specs.Places.{list_place, places_of}
 use Rattle.edit_list.specs.declared.edit_kinds.Edit.{Edit}
-use Rattle.edit_list.specs.Changes.{list_prefixes, list_classes}
+use Rattle.edit_list.specs.Changes.{packet_list_change, route_list_change}
 use Rattle.arc_base.specs.Numbered.{of_number, if_number, is_empty, placed}
 use Rattle.edit_list.proofs.NewListFacts.{picked_from, placed_is}
-use Rattle.line_patcher.specs.EntryLines.{first_line, for_packet_list, for_route_list, edited_packet_list, edited_route_list, edited_packet_lists, edited_route_lists, packet_place, route_place}
+use Rattle.line_patcher.specs.EntryLines.{first_line, for_list, edited_by, edited_packet_lists, edited_route_lists, packet_place, route_place}
 use Rattle.patch_laws.specs.EditFiles.{HasPacketList, HasRouteList}
 use Rattle.patch_laws.specs.ListsGrow.{list_begun}
+use Rattle.patch_laws.proofs.ListsGrow.{made, by-head}
 
 -- the group of commands that sets a list
 pub record ListGroup (cs : List FileCommand) (list : ListText) : Type 0 where
@@ -41,18 +42,8 @@ pub record ListGroup (cs : List FileCommand) (list : ListText) : Type 0 where
   pub entries_are : list.entries ≡ entries (first ∷ rest)
   pub numbered_is : list.numbered ≡ is_numbered (entries (first ∷ rest))
 
--- the list that is begun so
-abbrev pub made : Option (List ℕ × ListKind × ListForm) → List FileCommand → List ListText
-made None cs = []
-made (Some head) cs = list_text head.0 head.1 head.2 cs ∷ []
-
-pub by-head : (command : Command) (cs : List FileCommand) → list_by command cs ≡ made (list_begun command) cs
-by-head (commands.ListBlock extended name) cs = refl
-by-head (commands.ListLine name entry) cs = refl
-by-head (commands.PrefixLine name number entry) cs = refl
-by-head _ cs = refl
-
-made-is : (o : Option (List ℕ × ListKind × ListForm)) (group : List FileCommand) (list : ListText) → Contains (made o group) list → (o ≡ Some (list.name, list.kind, list.form)) × (list.entries ≡ entries group) × (list.numbered ≡ is_numbered (entries group))
+made-is : (o : Option (List ℕ × ListKind × ListForm)) (group : List FileCommand) (list : ListText) → Contains (made o group) list →
+    (o ≡ Some (list.name, list.kind, list.form)) × (list.entries ≡ entries group) × (list.numbered ≡ is_numbered (entries group))
 made-is None group list there = absurd (Contains-none list there)
 made-is (Some h) group list there = ⊎_elim
     (λ same. ((λ i. Some ((same i).name, (same i).kind, (same i).form)), ap (λ (l : ListText). l.entries) (sym same), ap (λ (l : ListText). l.numbered) (sym same)))
@@ -91,7 +82,8 @@ entry-picked c g false e = absurd (none-some g e)
 
 pub entry-command : (cs : List FileCommand) (list : ListText) (h : ListGroup cs list) (g : Given Command) → Contains list.entries g → EntryCommand cs h.part g
 entry-command cs list h g there =
-    let (c, in_group, picked) = picked_from (λ (c : FileCommand). if is_entry c.command then Some (given c) else None) (h.first ∷ h.rest) g (subst (λ (es : List (Given Command)). Contains es g) h.entries_are there) in
+    let (c, in_group, picked) = picked_from (λ (c : FileCommand). if is_entry c.command then Some (given c) else None) (h.first ∷ h.rest) g
+    (subst (λ (es : List (Given Command)). Contains es g) h.entries_are there) in
     let (entry, is) = entry-picked c g (is_entry c.command) picked in
     let (among, same) = from_filter (λ (d : FileCommand). is_same h.part (part_of d)) cs c (subst (λ (ds : List FileCommand). Contains ds c) (sym h.is) in_group) in
     record {
@@ -127,58 +119,54 @@ none-at {X} n xs other = by (of_number n xs) refl
     by (y ∷ ys) e = absurd (other (n, y) (from-number n xs y (subst (λ (l : List X). Contains l y) (sym e) (Contains-head y ys))) refl)
 
 -- the router's lists that are edited
-pub record EditedPackets (net : Network) (chosen : List Edit) (router id : ℕ) : Type 0 where
-  pub row : PacketList
-  pub at : slice_get net.packet_lists id ≡ Some row
-  pub own : row.router.0 ≡ router
-  pub some : list_classes chosen id ≢ []
-
-pub record EditedRoutes (net : Network) (chosen : List Edit) (router id : ℕ) : Type 0 where
-  pub row : RouteList
-  pub at : slice_get net.route_lists id ≡ Some row
-  pub own : row.router.0 ≡ router
-  pub some : list_prefixes chosen id ≢ []
+pub record EditedRow {L X : Type 0} (router_of : L → ℕ) (change : Edit → Option (ℕ × X)) (lists : List L) (chosen : List Edit) (router id : ℕ) : Type 0 where
+  pub row : L
+  pub at : slice_get lists id ≡ Some row
+  pub own : router_of row ≡ router
+  pub some : of_number id (filter_map change chosen) ≢ []
 
 if-some : {X Y : Type 0} (xs : List X) (x y : Y) → (if is_empty xs then None else Some x) ≡ Some y → (xs ≢ []) × (x ≡ y)
 if-some [] x y e = absurd (none-some y e)
 if-some {X} {Y} (a ∷ xs) x y e = (λ none. absurd cc, same_Some x y e)
 
-pub edited-packets : (net : Network) (chosen : List Edit) (router id : ℕ) → Contains (edited_packet_lists net chosen router) id → EditedPackets net chosen router id
-edited-packets net chosen router id there =
-    let picked = from-number router (filter_map (edited_packet_list chosen) (placed net.packet_lists)) id there in
-    let (item, among, is) = picked_from (edited_packet_list chosen) (placed net.packet_lists) (router, id) picked in
-    let (some, same) = if-some (list_classes chosen item.0) (item.1.router.0, item.0) (router, id) is in
+pub edited-list : {L X : Type 0} (router_of : L → ℕ) (change : Edit → Option (ℕ × X)) (lists : List L) (chosen : List Edit) (router id : ℕ) →
+    Contains (of_number router (filter_map (edited_by router_of change chosen) (placed lists))) id →
+    EditedRow router_of change lists chosen router id
+edited-list router_of change lists chosen router id there =
+    let picked = from-number router (filter_map (edited_by router_of change chosen) (placed lists)) id there in
+    let (item, among, is) = picked_from (edited_by router_of change chosen) (placed lists) (router, id) picked in
+    let (some, same) = if-some (of_number item.0 (filter_map change chosen)) (router_of item.1, item.0) (router, id) is in
     let place : item.0 ≡ id = ap (λ (p : ℕ × ℕ). p.1) same in
     record {
       row = item.1;
-      at = subst (λ (k : ℕ). slice_get net.packet_lists k ≡ Some item.1) place (placed_is net.packet_lists item among);
+      at = subst (λ (k : ℕ). slice_get lists k ≡ Some item.1) place (placed_is lists item among);
       own = ap (λ (p : ℕ × ℕ). p.0) same;
-      some = subst (λ (k : ℕ). list_classes chosen k ≢ []) place some;
+      some = subst (λ (k : ℕ). of_number k (filter_map change chosen) ≢ []) place some;
     }
 
-pub edited-routes : (net : Network) (chosen : List Edit) (router id : ℕ) → Contains (edited_route_lists net chosen router) id → EditedRoutes net chosen router id
-edited-routes net chosen router id there =
-    let picked = from-number router (filter_map (edited_route_list chosen) (placed net.route_lists)) id there in
-    let (item, among, is) = picked_from (edited_route_list chosen) (placed net.route_lists) (router, id) picked in
-    let (some, same) = if-some (list_prefixes chosen item.0) (item.1.router.0, item.0) (router, id) is in
-    let place : item.0 ≡ id = ap (λ (p : ℕ × ℕ). p.1) same in
-    record {
-      row = item.1;
-      at = subst (λ (k : ℕ). slice_get net.route_lists k ≡ Some item.1) place (placed_is net.route_lists item among);
-      own = ap (λ (p : ℕ × ℕ). p.0) same;
-      some = subst (λ (k : ℕ). list_prefixes chosen k ≢ []) place some;
-    }
+pub edited-packets : (net : Network) (chosen : List Edit) (router id : ℕ) → Contains (edited_packet_lists net chosen router) id →
+    EditedRow (λ (l : PacketList). l.router.0) packet_list_change net.packet_lists chosen router id
+edited-packets net = edited-list (λ (l : PacketList). l.router.0) packet_list_change net.packet_lists
+
+pub edited-routes : (net : Network) (chosen : List Edit) (router id : ℕ) → Contains (edited_route_lists net chosen router) id →
+    EditedRow (λ (l : RouteList). l.router.0) route_list_change net.route_lists chosen router id
+edited-routes net = edited-list (λ (l : RouteList). l.router.0) route_list_change net.route_lists
 
 -- what a file has for a list that it has
-pub packets-have : {X : Type 0} (net : Network) (cs : List FileCommand) (things : PacketList → ListPlace → List X) (id : ℕ) (row : PacketList) (h : HasPacketList cs row) → slice_get net.packet_lists id ≡ Some row →
-    for_packet_list net (places_of (config_of cs)) things id ≡ things row (list_place h.list)
-packets-have net cs things id row h at =
-    ap (λ (o : Option PacketList). option_map_or (λ (list : PacketList). option_map_or (things list) (packet_place (places_of (config_of cs)) list.name) []) o []) at ∙ ap (λ (o : Option ListPlace). option_map_or (things row) o []) h.place
+lists-have : {L X : Type 0} (lists : List L) (of_list : L → Option ListPlace) (things : L → ListPlace → List X) (id : ℕ) (row : L) (place : ListPlace) → slice_get lists id ≡ Some row →
+    of_list row ≡ Some place → for_list lists of_list things id ≡ things row place
+lists-have {L} {X} lists of_list things id row place at there =
+    ap (λ (o : Option L). option_map_or (λ (list : L). option_map_or (things list) (of_list list) []) o []) at ∙ ap (λ (o : Option ListPlace). option_map_or (things row) o []) there
 
-pub routes-have : {X : Type 0} (net : Network) (cs : List FileCommand) (things : RouteList → ListPlace → List X) (id : ℕ) (row : RouteList) (h : HasRouteList cs row) → slice_get net.route_lists id ≡ Some row →
-    for_route_list net (places_of (config_of cs)) things id ≡ things row (list_place h.list)
-routes-have net cs things id row h at =
-    ap (λ (o : Option RouteList). option_map_or (λ (list : RouteList). option_map_or (things list) (route_place (places_of (config_of cs)) list.name) []) o []) at ∙ ap (λ (o : Option ListPlace). option_map_or (things row) o []) h.place
+pub packets-have : {X : Type 0} (net : Network) (cs : List FileCommand) (things : PacketList → ListPlace → List X) (id : ℕ) (row : PacketList) (h : HasPacketList cs row) →
+    slice_get net.packet_lists id ≡ Some row →
+    for_list net.packet_lists (λ (l : PacketList). packet_place (places_of (config_of cs)) l.name) things id ≡ things row (list_place h.list)
+packets-have net cs things id row h at = lists-have net.packet_lists (λ (l : PacketList). packet_place (places_of (config_of cs)) l.name) things id row (list_place h.list) at h.place
+
+pub routes-have : {X : Type 0} (net : Network) (cs : List FileCommand) (things : RouteList → ListPlace → List X) (id : ℕ) (row : RouteList) (h : HasRouteList cs row) →
+    slice_get net.route_lists id ≡ Some row →
+    for_list net.route_lists (λ (l : RouteList). route_place (places_of (config_of cs)) l.name) things id ≡ things row (list_place h.list)
+routes-have net cs things id row h at = lists-have net.route_lists (λ (l : RouteList). route_place (places_of (config_of cs)) l.name) things id row (list_place h.list) at h.place
 
 -- the first entry of a list, whose line is that of its place
 pub record FirstEntry (list : ListText) : Type 0 where

@@ -1,5 +1,6 @@
 -- What edits put at the commands of a file leaves the name of the router.
-use Rattle.std.proofs.Common.{◌≡◌, ℕ, ◌+◌, ◌*◌, length, ◌⊎◌, inl, inr, Bool, true, false, List, [], ◌∷◌, ◌++◌, map, reverse, Option, Some, None, is_some, refl, sym, ap, subst, ◌∙◌, append_assoc, append-nil, Contains, ⊎_elim}
+use Rattle.std.proofs.Common.{◌≡◌, ℕ, ◌+◌, ◌*◌, length, ◌⊎◌, inl, inr, Bool, true, false, List, [], ◌∷◌, ◌++◌, map, reverse, Option, Some, None, is_some, refl, sym, ap, subst, ◌∙◌}
+use Rattle.std.proofs.Common.{append_assoc, append-nil, Contains, ⊎_elim}
 use Rattle.std.proofs.lemmas.Bool.{cond-false}
 use Rattle.std.proofs.lemmas.List.{map-append, reverse-append}
 use Rattle.std.proofs.lemmas.List.Concat.{flat_map-append}
@@ -41,16 +42,19 @@ use Rattle.patch_laws.proofs.EditParts.{entry-at, EndAt, OfProcess, OfFace, end-
 use Rattle.patch_laws.proofs.NewListGroups.{single-commands}
 
 -- a command that says nothing of a value leaves it
-setting-stays : {V : Type 0} → (says : Says V) (front : List FileCommand) (c : FileCommand) (back : List FileCommand) → says c.command ≡ None → last_setting says (front ++ c ∷ back) ≡ last_setting says (front ++ back)
+setting-stays : {V : Type 0} → (says : Says V) (front : List FileCommand) (c : FileCommand) (back : List FileCommand) → says c.command ≡ None →
+    last_setting says (front ++ c ∷ back) ≡ last_setting says (front ++ back)
 setting-stays {V} says front c back silent =
     let f : FileCommand → Option (Given V) = λ d. given_at d.line (says d.command) in
     let p : FileCommand → Bool = λ d. is_some (says d.command) in
     let none : p c ≡ false = ap is_some silent in
     ap (λ l. option_and_then f (find p l)) (reverse-append front (c ∷ back) ∙ ap (λ r. r ++ reverse front) (reverse-append (c ∷ []) back) ∙ append_assoc (reverse back) (c ∷ []) (reverse front))
-    ∙ ap (option_and_then f) (find-append p (reverse back) (c ∷ reverse front) ∙ ap (option_or (find p (reverse back))) (cond-false (p c) (Some c) (find p (reverse front)) none) ∙ sym (find-append p (reverse back) (reverse front)))
+    ∙ ap (option_and_then f) (find-append p (reverse back) (c ∷ reverse front) ∙ ap (option_or (find p (reverse back))) (cond-false (p c) (Some c) (find p (reverse front)) none)
+    ∙ sym (find-append p (reverse back) (reverse front)))
     ∙ ap (λ l. option_and_then f (find p l)) (sym (reverse-append front back))
 
-named : (o : Option (Given (List ℕ))) → option_map bare_setting (option_map (λ (g : Given (List ℕ)). record { name = g.value; line = g.line }) o) ≡ option_map (λ (g : Given (List ℕ)). record { name = g.value; line = g.line }) (bare_option o)
+named : (o : Option (Given (List ℕ))) → option_map bare_setting (option_map (λ (g : Given (List ℕ)). record { name = g.value; line = g.line }) o) ≡ option_map
+    (λ (g : Given (List ℕ)). record { name = g.value; line = g.line }) (bare_option o)
 named None = refl
 named (Some g) = refl
 
@@ -58,7 +62,8 @@ named (Some g) = refl
 abbrev IsUnnamed : FileCommand → Type 0
 IsUnnamed v = hostname v.command ≡ None
 
-all-stay : (front vs back : List FileCommand) → ((v : FileCommand) → Contains vs v → IsUnnamed v) → last_setting hostname (map bare front ++ (map bare vs ++ map bare back)) ≡ last_setting hostname (map bare front ++ map bare back)
+all-stay : (front vs back : List FileCommand) → ((v : FileCommand) → Contains vs v → IsUnnamed v) →
+    last_setting hostname (map bare front ++ (map bare vs ++ map bare back)) ≡ last_setting hostname (map bare front ++ map bare back)
 all-stay front [] back silent = refl
 all-stay front (v ∷ vs) back silent =
     setting-stays hostname (map bare front) (bare v) (map bare vs ++ map bare back) (silent v (Contains-head v vs)) ∙ all-stay front vs back (λ u there. silent u (Contains-tail v u vs there))
@@ -70,7 +75,8 @@ StandFor xs ys = (front back : List FileCommand) → last_setting hostname (map 
 both-stand : (xs ys us vs : List FileCommand) → StandFor xs ys → StandFor us vs → StandFor (xs ++ us) (ys ++ vs)
 both-stand xs ys us vs one two front back =
     let first : map bare front ++ (map bare (xs ++ us) ++ map bare back) ≡ map bare front ++ (map bare xs ++ map bare (us ++ back)) =
-    ap (λ l. map bare front ++ l) (ap (λ l. l ++ map bare back) (map-append bare xs us) ∙ append_assoc (map bare xs) (map bare us) (map bare back) ∙ ap (λ l. map bare xs ++ l) (sym (map-append bare us back))) in
+    ap (λ l. map bare front ++ l) (ap (λ l. l ++ map bare back) (map-append bare xs us) ∙ append_assoc (map bare xs) (map bare us) (map bare back)
+    ∙ ap (λ l. map bare xs ++ l) (sym (map-append bare us back))) in
     let middle : map bare front ++ (map bare ys ++ map bare (us ++ back)) ≡ map bare (front ++ ys) ++ (map bare us ++ map bare back) =
     sym (append_assoc (map bare front) (map bare ys) (map bare (us ++ back))) ∙ (let f = sym (map-append bare front ys) in let b = map-append bare us back in λ i. f i ++ b i) in
     let last : map bare (front ++ ys) ++ (map bare vs ++ map bare back) ≡ map bare front ++ (map bare (ys ++ vs) ++ map bare back) =
@@ -107,7 +113,8 @@ entry-unnamed (commands.Hostname name) is = absurd cc
 entry-unnamed _ is = refl
 
 -- the commands of new lists
-deny-unnamed : (name : List ℕ) (es : List (ℕ × Prefix)) (last : ℕ) → AllByRecursion (λ (w : Written). hostname w.command ≡ None) (map written_of (map (deny_prefix name) es ++ permit_all name last ∷ []))
+deny-unnamed : (name : List ℕ) (es : List (ℕ × Prefix)) (last : ℕ) →
+    AllByRecursion (λ (w : Written). hostname w.command ≡ None) (map written_of (map (deny_prefix name) es ++ permit_all name last ∷ []))
 deny-unnamed name [] last = (refl, tt)
 deny-unnamed name (e ∷ es) last = (refl, deny-unnamed name es last)
 
@@ -127,20 +134,24 @@ added-unnamed chosen key ((list, name) ∷ ns) t there =
     (subst (λ (l : List FileCommand). Contains l t) (flat_map-append chunk_commands (new_chunks chosen key list name) (list_chunks chosen (key + 1) ns)) there))
     (added-unnamed chosen (key + 1) ns t)
   where
-    by : (list : NewList) → Contains (flat_map chunk_commands (new_chunks chosen key list name)) t ⊎ Contains (flat_map chunk_commands (list_chunks chosen (key + 1) ns)) t → (Contains (flat_map chunk_commands (list_chunks chosen (key + 1) ns)) t → IsUnnamed t) →
+    by : (list : NewList) → Contains (flat_map chunk_commands (new_chunks chosen key list name)) t ⊎ Contains (flat_map chunk_commands (list_chunks chosen (key + 1) ns)) t →
+        (Contains (flat_map chunk_commands (list_chunks chosen (key + 1) ns)) t → IsUnnamed t) →
         IsUnnamed t
     by list (inr late) deeper = deeper late
     by (Route face) (inl early) deeper =
-        written-unnamed 0 (map written_of (new_route_commands name (new_prefixes chosen face.0))) (deny-unnamed name (enumerate_from 1 (new_prefixes chosen face.0)) (5 * (length (new_prefixes chosen face.0) + 1))) t
+        written-unnamed 0 (map written_of (new_route_commands name (new_prefixes chosen face.0)))
+        (deny-unnamed name (enumerate_from 1 (new_prefixes chosen face.0)) (5 * (length (new_prefixes chosen face.0) + 1))) t
         (subst (λ (l : List FileCommand). Contains l t) (single-commands (map written_of (new_route_commands name (new_prefixes chosen face.0)))) early)
     by (Packet face) (inl early) deeper =
         let entries = map (in_block key) (map written_of (new_entries (new_classes chosen face.0))) in
         ⊎_elim
         (λ (here : in_block key (written_of (commands.ListBlock true name)) ≡ t). ap (λ (v : FileCommand). hostname v.command) (sym here))
         (λ later. written-unnamed key (map written_of (new_entries (new_classes chosen face.0))) (class-unnamed (new_classes chosen face.0)) t later)
-        (Contains-cases (in_block key (written_of (commands.ListBlock true name))) t entries (subst (λ (l : List FileCommand). Contains l t) (append-nil (in_block key (written_of (commands.ListBlock true name)) ∷ entries)) early))
+        (Contains-cases (in_block key (written_of (commands.ListBlock true name))) t entries
+        (subst (λ (l : List FileCommand). Contains l t) (append-nil (in_block key (written_of (commands.ListBlock true name)) ∷ entries)) early))
 
-module _ (net : Network) (places : List Places) (chosen : List Edit) (router : ℕ) (text : List ℕ) (lines : Lines) (cs : List FileCommand) (f : IsEditedFile net places chosen router text lines cs) where
+module _ (net : Network) (places : List Places) (chosen : List Edit) (router : ℕ) (text : List ℕ) (lines : Lines) (cs : List FileCommand)
+    (f : IsEditedFile net places chosen router text lines cs) where
   abbrev grown_at : FileCommand → List FileCommand
   grown_at c = grow_at net places chosen router text lines cs c
 
@@ -166,9 +177,12 @@ module _ (net : Network) (places : List Places) (chosen : List Edit) (router : �
 
   all-stand : (ds : List FileCommand) → ((c : FileCommand) → Contains ds c → Contains cs c) → StandFor (flat_map grown_at ds) ds
   all-stand [] within = λ front back. refl
-  all-stand (d ∷ ds) within = both-stand (grown_at d) (d ∷ []) (flat_map grown_at ds) ds (grow-stands d (within d (Contains-head d ds))) (all-stand ds (λ c there. within c (Contains-tail d c ds there)))
+  all-stand (d ∷ ds) within = both-stand (grown_at d) (d ∷ []) (flat_map grown_at ds) ds (grow-stands d (within d (Contains-head d ds)))
+      (all-stand ds (λ c there. within c (Contains-tail d c ds there)))
 
-  pub name-stays : option_map bare_setting (router_name (flat_map grown_at (split net places chosen router text lines cs f).front ++ (more_at net places chosen router text lines cs ++ flat_map grown_at (back_at net places chosen router text lines cs f)))) ≡
+  pub name-stays : option_map bare_setting
+      (router_name (flat_map grown_at
+      (split net places chosen router text lines cs f).front ++ (more_at net places chosen router text lines cs ++ flat_map grown_at (back_at net places chosen router text lines cs f)))) ≡
       option_map bare_setting (router_name ((split net places chosen router text lines cs f).front ++ back_at net places chosen router text lines cs f))
   name-stays =
       let s = split net places chosen router text lines cs f in
@@ -177,8 +191,10 @@ module _ (net : Network) (places : List Places) (chosen : List Edit) (router : �
       let new = flat_map grown_at s.front ++ (more ++ flat_map grown_at back) in
       let stand : StandFor new (s.front ++ back) =
       both-stand (flat_map grown_at s.front) s.front (more ++ flat_map grown_at back) back (all-stand s.front (in-front net places chosen router text lines cs f))
-      (both-stand more [] (flat_map grown_at back) back (silent-stand more (added-unnamed chosen (new_key lines) (named_lists net chosen router))) (all-stand back (in-back net places chosen router text lines cs f))) in
+      (both-stand more [] (flat_map grown_at back) back (silent-stand more (added-unnamed chosen (new_key lines) (named_lists net chosen router)))
+      (all-stand back (in-back net places chosen router text lines cs f))) in
       let same : last_setting hostname (map bare new) ≡ last_setting hostname (map bare (s.front ++ back)) =
       ap (last_setting hostname) (sym (append-nil (map bare new))) ∙ stand [] [] ∙ ap (last_setting hostname) (append-nil (map bare (s.front ++ back))) in
-      named (last_setting hostname new) ∙ ap (option_map (λ (g : Given (List ℕ)). record { name = g.value; line = g.line })) (sym (bare-setting hostname new) ∙ same ∙ bare-setting hostname (s.front ++ back)) ∙
+      named (last_setting hostname new) ∙ ap (option_map (λ (g : Given (List ℕ)). record { name = g.value; line = g.line }))
+      (sym (bare-setting hostname new) ∙ same ∙ bare-setting hostname (s.front ++ back)) ∙
       sym (named (last_setting hostname (s.front ++ back)))

@@ -1,5 +1,6 @@
 -- The names of new lists are names, no two are one, and none is that of a list of the file.
-use Rattle.std.proofs.Common.{◌≡◌, ◌≢◌, ℕ, ◌+◌, ◌^◌, ◌<◌, ◌&&◌, not, Bool, true, Option, Some, None, List, [], ◌∷◌, length, map, filter, take, drop, refl, sym, ap, subst, ◌∙◌, arith, Contains, inl, codes, get_or, IsTrue}
+use Rattle.std.proofs.Common.{◌≡◌, ◌≢◌, ℕ, ◌+◌, ◌^◌, ◌<◌, ◌&&◌, not, Bool, true, Option, Some, None, List, [], ◌∷◌, length, map, filter, take, drop, refl, sym, ap, subst, ◌∙◌, arith}
+use Rattle.std.proofs.Common.{Contains, inl, codes, get_or, IsTrue}
 use Rattle.std.specs.Prelude.{AllPairs, slice_get, nat_le}
 use Rattle.std.specs.Option.{option_map_or}
 use Rattle.std.specs.List.{AllByRecursion, filter_map, list_all, range_with_len, zip}
@@ -27,6 +28,7 @@ use Rattle.arc_base.specs.Numbered.{if_number, placed}
 use Rattle.edit_list.specs.Writable.{is_writable}
 use Rattle.edit_list.proofs.Counts.{few_picked, few_placed}
 use Rattle.edit_space.proofs.FreeNames.{free_name_is_new, free_names_apart}
+use Rattle.line_patcher.proofs.Tables.{few_put}
 use Rattle.settings_edit_laws.proofs.NewNames.{name_is_new, new_of_named, zip_places}
 use Rattle.settings_edit_laws.proofs.Pairs.{any_of}
 use Rattle.patch_laws.specs.NewListSites.{IsNewName, AreDifferent}
@@ -50,7 +52,8 @@ in-take n xs x h = subst (λ (l : List (List ℕ)). Contains l x) (take-append-d
 -- no free name is this word
 free-other : (names : List (List ℕ)) (count : ℕ) (name : List ℕ) → Contains (free_names names count) name → name ≢ codes "sequence-number"
 free-other names count name there same =
-    let picked = from_filter (λ (n : List ℕ). not (is_among names n)) (map new_name (range_with_len 1 (length names + count))) name (in-take count (filter (λ (n : List ℕ). not (is_among names n)) (map new_name (range_with_len 1 (length names + count)))) name there) in
+    let picked = from_filter (λ (n : List ℕ). not (is_among names n)) (map new_name (range_with_len 1 (length names + count))) name
+    (in-take count (filter (λ (n : List ℕ). not (is_among names n)) (map new_name (range_with_len 1 (length names + count)))) name there) in
     let (n, among, is) = from_map new_name (range_with_len 1 (length names + count)) name picked.0 in
     let first : 65 ≡ 115 = ap (λ (l : List ℕ). get_or l 0 0) (is ∙ same) in
     absurd (omega (arith, first))
@@ -92,10 +95,7 @@ module _ (net : Network) (valid : IsValid net) (small : IsCountable net) (chosen
       record {
         name = name-passes named.1 (free_name_is_new (names_of net router) (length (new_lists_of net chosen router)) named.1 few in_names).1;
         other = free-other (names_of net router) (length (new_lists_of net chosen router)) named.1 in_names;
-        few = λ face.
-            let one = few_picked (if_number face) (filter_map new_route_change chosen) in
-            let two = few_picked new_route_change chosen in
-            omega (arith, one, two, room);
+        few = λ face. let some = few_put new_route_change chosen face in omega (arith, some, room);
         writable = writable;
       })
 
@@ -104,7 +104,8 @@ module _ (net : Network) (valid : IsValid net) (small : IsCountable net) (chosen
       (free_names_apart (names_of net router) (length (new_lists_of net chosen router)) (let all = few in omega (arith, all)))
 
   -- a name of the file's lists is none of new lists
-  pub new-free : (row : RouterRow) (config : Config) → slice_get net.routers router ≡ Some row → IsRouterRow net.protocol config row → (named : NewList × List ℕ) → Contains (named_lists net chosen router) named →
+  pub new-free : (row : RouterRow) (config : Config) → slice_get net.routers router ≡ Some row → IsRouterRow net.protocol config row → (named : NewList × List ℕ) →
+      Contains (named_lists net chosen router) named →
       (list : ListText) → Contains config.lists list → list.name ≢ named.1
   new-free row config at is named there list in_lists same =
       let new = new_of_named net valid small chosen router named there in

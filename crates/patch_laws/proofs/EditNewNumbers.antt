@@ -20,26 +20,26 @@ use Rattle.net_build.specs.declared.built.ListPlace.{ListPlace}
 use Rattle.net_build.specs.declared.built.Places.{Places}
 use Rattle.net_build.specs.Places.{list_place}
 use Rattle.edit_list.specs.declared.edit_kinds.Edit.{Edit}
-use Rattle.edit_list.specs.Changes.{list_prefixes, list_classes}
-use Rattle.arc_base.specs.Numbered.{is_empty, of_number}
+use Rattle.edit_list.specs.Changes.{list_prefixes, list_classes, packet_list_change, route_list_change}
+use Rattle.arc_base.specs.Numbered.{of_number}
 use Rattle.line_patcher.specs.declared.additions.NewNumber.{NewNumber}
 use Rattle.line_patcher.specs.Additions.{numbers_at}
-use Rattle.line_patcher.specs.EntryLines.{edited_packet_list, edited_route_list, edited_packet_lists, edited_route_lists, new_numbers, packet_list_numbers, route_list_numbers}
+use Rattle.line_patcher.specs.EntryLines.{edited_packet_lists, edited_route_lists, new_numbers, packet_list_numbers, route_list_numbers}
 use Rattle.settings_edit_laws.specs.Additions.{class_for, prefix_for}
 use Rattle.settings_edit_laws.proofs.ListRows.{things_same}
 use Rattle.settings_edit_laws.proofs.TextKinds.{packet_texts, route_texts}
-use Rattle.settings_edit_laws.proofs.SessionFacts.{one_named}
 use Rattle.patch_laws.specs.EditFiles.{IsEditedFile, HasPacketList, HasRouteList}
 use Rattle.patch_laws.specs.ListsGrow.{list_begun}
 use Rattle.patch_laws.proofs.EditBlocks.{members-of}
-use Rattle.patch_laws.proofs.EditFrontLines.{flat-none, flat-one}
+use Rattle.patch_laws.proofs.EditFrontLines.{flat-none}
 use Rattle.patch_laws.proofs.EditGrow.{own}
-use Rattle.patch_laws.proofs.EditLists.{list-group, entry-command, from-number, of-append, edited-packets, edited-routes, packets-have, routes-have}
-use Rattle.patch_laws.proofs.EditListsShow.{HasClasses, HasPrefixes, IsThis, class-in, edited-apart, picked-place, prefix-in, this}
-use Rattle.patch_laws.proofs.EditRenumber.{number-at}
+use Rattle.patch_laws.proofs.EditLists.{EditedRow, list-group, entry-command, from-number, of-append, edited-packets, edited-routes, packets-have, routes-have}
+use Rattle.patch_laws.proofs.EditListsShow.{HasClasses, HasPrefixes, IsThis, one-list, this}
+use Rattle.patch_laws.proofs.EditBusy.{number-at}
 use Rattle.patch_laws.proofs.FileParts.{one-line, rising}
 
-module _ (net : Network) (places : List Places) (chosen : List Edit) (router : ℕ) (text : List ℕ) (lines : Lines) (cs : List FileCommand) (f : IsEditedFile net places chosen router text lines cs) where
+module _ (net : Network) (places : List Places) (chosen : List Edit) (router : ℕ) (text : List ℕ) (lines : Lines) (cs : List FileCommand)
+    (f : IsEditedFile net places chosen router text lines cs) where
   abbrev own_at : Places
   own_at = own net places chosen router text lines cs
 
@@ -59,7 +59,8 @@ module _ (net : Network) (places : List Places) (chosen : List Edit) (router : �
   abbrev route_numbers : ℕ → List (ℕ × NewNumber)
   route_numbers id = route_list_numbers net own_at chosen id
 
-  packets-at : (id : ℕ) (row : PacketList) (h : HasPacketList cs row) → slice_get net.packet_lists id ≡ Some row → packet_numbers id ≡ new_numbers (list_place h.list) 0 10 (length (list_classes chosen id))
+  packets-at : (id : ℕ) (row : PacketList) (h : HasPacketList cs row) → slice_get net.packet_lists id ≡ Some row →
+      packet_numbers id ≡ new_numbers (list_place h.list) 0 10 (length (list_classes chosen id))
   packets-at id row h at = packets-have net cs (λ (list : PacketList) (place : ListPlace). new_numbers place 0 10 (length (list_classes chosen id))) id row h at
 
   routes-at : (id : ℕ) (row : RouteList) (h : HasRouteList cs row) → slice_get net.route_lists id ≡ Some row → route_numbers id ≡ new_numbers (list_place h.list) 4 5 (length (list_prefixes chosen id))
@@ -71,7 +72,8 @@ module _ (net : Network) (places : List Places) (chosen : List Edit) (router : �
 
     module _ (d : FileCommand) (there : Contains (members cs q) d) where
       -- a list with a new number for a command of the group is that of the group
-      of-this : (list : ListText) (among : Contains (config_of cs).lists list) (word step count : ℕ) (new : NewNumber) → Contains (new_numbers (list_place list) word step count) (d.line, new) → This list
+      of-this : (list : ListText) (among : Contains (config_of cs).lists list) (word step count : ℕ) (new : NewNumber) →
+          Contains (new_numbers (list_place list) word step count) (d.line, new) → This list
       of-this list among word step count new has =
           let n = number-at list word step count (d.line, new) has in
           let g = list-group cs list among in
@@ -86,30 +88,34 @@ module _ (net : Network) (places : List Places) (chosen : List Edit) (router : �
           by : (ns : List NewNumber) → of_number d.line (new_numbers (list_place list) word step count) ≡ ns → ns ≡ []
           by [] e = refl
           by (n ∷ ns) e =
-              absurd (never (of-this list among word step count n (from-number d.line (new_numbers (list_place list) word step count) n (subst (λ (l : List NewNumber). Contains l n) (sym e) (Contains-head n ns)))))
+              absurd (never (of-this list among word step count n
+              (from-number d.line (new_numbers (list_place list) word step count) n (subst (λ (l : List NewNumber). Contains l n) (sym e) (Contains-head n ns)))))
 
-      packets-off : (id : ℕ) → Contains packet_ids id → ((row : PacketList) → slice_get net.packet_lists id ≡ Some row → row.router.0 ≡ router → (h : HasPacketList cs row) → list_classes chosen id ≢ [] → This h.list → ⊥) → of_number d.line (packet_numbers id) ≡ []
-      packets-off id in_ids never =
-          let r = edited-packets net chosen router id in_ids in
+      packets-off : (id : ℕ) (r : EditedRow (λ (l : PacketList). l.router.0) packet_list_change net.packet_lists chosen router id) → ((h : HasPacketList cs r.row) → This h.list → ⊥) →
+          of_number d.line (packet_numbers id) ≡ []
+      packets-off id r never =
           let h = f.packets id r.row r.at r.own r.some in
-          ap (of_number d.line) (packets-at id r.row h r.at) ∙ other-list h.list h.among 0 10 (length (list_classes chosen id)) (never r.row r.at r.own h r.some)
+          ap (of_number d.line) (packets-at id r.row h r.at) ∙ other-list h.list h.among 0 10 (length (list_classes chosen id)) (never h)
 
-      routes-off : (id : ℕ) → Contains route_ids id → ((row : RouteList) → slice_get net.route_lists id ≡ Some row → row.router.0 ≡ router → (h : HasRouteList cs row) → list_prefixes chosen id ≢ [] → This h.list → ⊥) → of_number d.line (route_numbers id) ≡ []
-      routes-off id in_ids never =
-          let r = edited-routes net chosen router id in_ids in
+      routes-off : (id : ℕ) (r : EditedRow (λ (l : RouteList). l.router.0) route_list_change net.route_lists chosen router id) → ((h : HasRouteList cs r.row) → This h.list → ⊥) →
+          of_number d.line (route_numbers id) ≡ []
+      routes-off id r never =
           let h = f.routes id r.row r.at r.own r.some in
-          ap (of_number d.line) (routes-at id r.row h r.at) ∙ other-list h.list h.among 4 5 (length (list_prefixes chosen id)) (never r.row r.at r.own h r.some)
+          ap (of_number d.line) (routes-at id r.row h r.at) ∙ other-list h.list h.among 4 5 (length (list_prefixes chosen id)) (never h)
 
       -- a command of a packet list has new numbers of packet lists only
       of-packets : x.1 ≢ kinds.Prefix → new_numbers_at d ≡ of_number d.line (flat_map packet_numbers packet_ids)
       of-packets kind =
-          let none : of_number d.line (flat_map route_numbers route_ids) ≡ [] = flat-none d.line route_numbers route_ids (λ id in_ids. routes-off id in_ids (λ row at here h some t. kind (sym t.kind ∙ h.kind))) in
-          of-append d.line (flat_map packet_numbers packet_ids) (flat_map route_numbers route_ids) ∙ ap (λ (l : List NewNumber). of_number d.line (flat_map packet_numbers packet_ids) ++ l) none ∙ append-nil (of_number d.line (flat_map packet_numbers packet_ids))
+          let none : of_number d.line (flat_map route_numbers route_ids) ≡ [] =
+          flat-none d.line route_numbers route_ids (λ id in_ids. routes-off id (edited-routes net chosen router id in_ids) (λ h t. kind (sym t.kind ∙ h.kind))) in
+          of-append d.line (flat_map packet_numbers packet_ids) (flat_map route_numbers route_ids)
+          ∙ ap (λ (l : List NewNumber). of_number d.line (flat_map packet_numbers packet_ids) ++ l) none ∙ append-nil (of_number d.line (flat_map packet_numbers packet_ids))
 
       -- and one of a route list those of route lists
       of-routes : x.1 ≡ kinds.Prefix → new_numbers_at d ≡ of_number d.line (flat_map route_numbers route_ids)
       of-routes kind =
-          let none : of_number d.line (flat_map packet_numbers packet_ids) ≡ [] = flat-none d.line packet_numbers packet_ids (λ id in_ids. packets-off id in_ids (λ row at here h some t. extended-prefix (sym h.kind ∙ t.kind ∙ kind))) in
+          let none : of_number d.line (flat_map packet_numbers packet_ids) ≡ [] =
+          flat-none d.line packet_numbers packet_ids (λ id in_ids. packets-off id (edited-packets net chosen router id in_ids) (λ h t. extended-prefix (sym h.kind ∙ t.kind ∙ kind))) in
           of-append d.line (flat_map packet_numbers packet_ids) (flat_map route_numbers route_ids) ∙ ap (λ (l : List NewNumber). l ++ of_number d.line (flat_map route_numbers route_ids)) none
         where
           extended-prefix : kinds.Extended ≡ kinds.Prefix → ⊥
@@ -118,27 +124,29 @@ module _ (net : Network) (places : List Places) (chosen : List Edit) (router : �
       -- where edits put nothing into the list there is none
       pub no-packets : x.1 ≢ kinds.Prefix → filter_map (class_for net router x.0) chosen ≡ [] → new_numbers_at d ≡ []
       no-packets kind empty =
-          of-packets kind ∙ flat-none d.line packet_numbers packet_ids (λ id in_ids. packets-off id in_ids (λ row at here h some t.
-          some (things_same (packet_texts net chosen f.valid) router x.0 id row at here (sym h.name ∙ t.name) ∙ empty)))
+          of-packets kind ∙ flat-none d.line packet_numbers packet_ids (λ id in_ids. let r = edited-packets net chosen router id in_ids in packets-off id r (λ h t.
+          r.some (things_same (packet_texts net chosen f.valid) router x.0 id r.row r.at r.own (sym h.name ∙ t.name) ∙ empty)))
 
       pub no-routes : x.1 ≡ kinds.Prefix → filter_map (prefix_for net router x.0) chosen ≡ [] → new_numbers_at d ≡ []
       no-routes kind empty =
-          of-routes kind ∙ flat-none d.line route_numbers route_ids (λ id in_ids. routes-off id in_ids (λ row at here h some t.
-          some (things_same (route_texts net chosen f.valid) router x.0 id row at here (sym h.name ∙ t.name) ∙ empty)))
+          of-routes kind ∙ flat-none d.line route_numbers route_ids (λ id in_ids. let r = edited-routes net chosen router id in_ids in routes-off id r (λ h t.
+          r.some (things_same (route_texts net chosen f.valid) router x.0 id r.row r.at r.own (sym h.name ∙ t.name) ∙ empty)))
 
       -- and else those of the list
-      pub some-packets : x.1 ≢ kinds.Prefix → (s : HasClasses net places chosen router text lines cs f q first rest is x begun) → new_numbers_at d ≡ of_number d.line (new_numbers (list_place s.has.list) 0 10 (length (list_classes chosen s.id)))
+      pub some-packets : x.1 ≢ kinds.Prefix → (s : HasClasses net places chosen router text lines cs f q first rest is x begun) →
+          new_numbers_at d ≡ of_number d.line (new_numbers (list_place s.has.list) 0 10 (length (list_classes chosen s.id)))
       some-packets kind s =
-          of-packets kind ∙ flat-one d.line packet_numbers packet_ids s.id (edited-apart router (edited_packet_list chosen) net.packet_lists (λ p y made. picked-place (is_empty (list_classes chosen p.0)) p.1.router.0 p.0 y made))
-          (class-in net places chosen router text lines cs f s.id s.row s.at s.here s.some)
-          (λ other in_ids differ. packets-off other in_ids (λ row at here h some t.
-          differ (one_named (λ (l : PacketList). l.router.0) (λ (l : PacketList). l.name) net.packet_lists other s.id row s.row f.valid.packet_lists_named_apart at s.at (here ∙ sym s.here) (sym h.name ∙ t.name ∙ sym s.named)))) ∙
+          of-packets kind ∙
+          one-list (λ (l : PacketList). l.router.0) (λ (l : PacketList). l.name) packet_list_change net.packet_lists chosen router d.line packet_numbers f.valid.packet_lists_named_apart
+          s.id s.row s.at s.here s.some
+          (λ other r differ. packets-off other r (λ h t. differ (sym h.name ∙ t.name ∙ sym s.named))) ∙
           ap (of_number d.line) (packets-at s.id s.row s.has s.at)
 
-      pub some-routes : x.1 ≡ kinds.Prefix → (s : HasPrefixes net places chosen router text lines cs f q first rest is x begun) → new_numbers_at d ≡ of_number d.line (new_numbers (list_place s.has.list) 4 5 (length (list_prefixes chosen s.id)))
+      pub some-routes : x.1 ≡ kinds.Prefix → (s : HasPrefixes net places chosen router text lines cs f q first rest is x begun) →
+          new_numbers_at d ≡ of_number d.line (new_numbers (list_place s.has.list) 4 5 (length (list_prefixes chosen s.id)))
       some-routes kind s =
-          of-routes kind ∙ flat-one d.line route_numbers route_ids s.id (edited-apart router (edited_route_list chosen) net.route_lists (λ p y made. picked-place (is_empty (list_prefixes chosen p.0)) p.1.router.0 p.0 y made))
-          (prefix-in net places chosen router text lines cs f s.id s.row s.at s.here s.some)
-          (λ other in_ids differ. routes-off other in_ids (λ row at here h some t.
-          differ (one_named (λ (l : RouteList). l.router.0) (λ (l : RouteList). l.name) net.route_lists other s.id row s.row f.valid.route_lists_named_apart at s.at (here ∙ sym s.here) (sym h.name ∙ t.name ∙ sym s.named)))) ∙
+          of-routes kind ∙
+          one-list (λ (l : RouteList). l.router.0) (λ (l : RouteList). l.name) route_list_change net.route_lists chosen router d.line route_numbers f.valid.route_lists_named_apart
+          s.id s.row s.at s.here s.some
+          (λ other r differ. routes-off other r (λ h t. differ (sym h.name ∙ t.name ∙ sym s.named))) ∙
           ap (of_number d.line) (routes-at s.id s.row s.has s.at)

@@ -30,7 +30,8 @@ use Rattle.line_edit_laws.specs.Sites.{Written, in_block, says_other}
 use Rattle.patch_laws.specs.EditFiles.{IsEditedFile}
 use Rattle.patch_laws.specs.EditSites.{entries_at}
 use Rattle.patch_laws.specs.Written.{written_of}
-use Rattle.patch_laws.proofs.EditCounted.{Counts, alone, classes-count, counts-append, counts-rise, front-numbers, none-alone, numbers, numbers-append, numbers-are, prefixes-count, renumbered, rises-of, unchanged}
+use Rattle.patch_laws.proofs.EditCounted.{Counts, alone, classes-count, counts-append, counts-rise, front-numbers, none-alone, numbers, numbers-append, numbers-are, prefixes-count}
+use Rattle.patch_laws.proofs.EditCounted.{renumbered, rises-of, unchanged}
 use Rattle.patch_laws.proofs.EditFronts.{FirstOf, first-of, members-rise, none-elsewhere}
 use Rattle.patch_laws.proofs.EditGrow.{own, grow_at, new_at, grow-is}
 use Rattle.patch_laws.proofs.EditListGroups.{no-ends}
@@ -40,7 +41,8 @@ use Rattle.patch_laws.proofs.EditNewNumbers.{new_numbers_at, no-packets, no-rout
 use Rattle.patch_laws.proofs.EditNumbers.{lines-unnumbered, number-of, rise-in}
 use Rattle.patch_laws.proofs.EditRising.{Rises, numbers_of}
 
-module _ (net : Network) (places : List Places) (chosen : List Edit) (router : ℕ) (text : List ℕ) (lines : Lines) (cs : List FileCommand) (f : IsEditedFile net places chosen router text lines cs) where
+module _ (net : Network) (places : List Places) (chosen : List Edit) (router : ℕ) (text : List ℕ) (lines : Lines) (cs : List FileCommand)
+    (f : IsEditedFile net places chosen router text lines cs) where
   abbrev own_at : Places
   own_at = own net places chosen router text lines cs
 
@@ -68,7 +70,9 @@ module _ (net : Network) (places : List Places) (chosen : List Edit) (router : �
     grows c there =
         let front = map (in_block c.block) (entries_at net own_at chosen router c) in
         let m = says_other c (new_at net places chosen router text lines cs c) in
-        ap numbers (grow-is net places chosen router text lines cs c ∙ ap (λ (l : List Written). front ++ (m ∷ map (in_block c.block) l)) (no-ends net places chosen router text lines cs f g.part g.first g.rest g.is x g.begun c there)) ∙ numbers-append front (m ∷ [])
+        ap numbers (grow-is net places chosen router text lines cs c
+        ∙ ap (λ (l : List Written). front ++ (m ∷ map (in_block c.block) l)) (no-ends net places chosen router text lines cs f g.part g.first g.rest g.is x g.begun c there))
+        ∙ numbers-append front (m ∷ [])
 
     in-list : (c : FileCommand) → Contains group c → is_entry c.command ≡ true → Contains list.entries (given c)
     in-list c there entry =
@@ -86,40 +90,49 @@ module _ (net : Network) (places : List Places) (chosen : List Edit) (router : �
       whole : numbers (flat_map grown_at group) ≡ before c.command ++ flat_map itself group
       whole =
           front-numbers grown_at before itself 1 group c.command (members-rise net places chosen router text lines cs f g.part g.first g.rest g.is x g.begun) c.among grows
-          (λ d there other. ap (λ (ws : List Written). numbers (map (in_block d.block) ws)) (none-elsewhere net places chosen router text lines cs f g.part g.first g.rest g.is x g.begun e more es c d there other))
+          (λ d there other. ap (λ (ws : List Written). numbers (map (in_block d.block) ws))
+          (none-elsewhere net places chosen router text lines cs f g.part g.first g.rest g.is x g.begun e more es c d there other))
           (λ d there low. none-alone d.command (news d) (c.before d there low))
 
       -- without new entries and numbers the list is as it was
       as-before : entries_at net own_at chosen router c.command ≡ [] → ((d : FileCommand) → Contains group d → news d ≡ []) → Rises (numbers (flat_map grown_at group))
       as-before none quiet =
           let same : numbers (flat_map grown_at group) ≡ numbers_of list.entries =
-          whole ∙ ap (λ (ws : List Written). numbers (map (in_block c.command.block) ws) ++ flat_map itself group) none ∙ unchanged 0 0 0 news group (λ d there is. quiet d there) ∙ sym (numbers-are group) ∙ ap (λ (l : List FileCommand). numbers_of (entries l)) g.is ∙ ap numbers_of (sym g.entries_are) in
+          whole ∙ ap (λ (ws : List Written). numbers (map (in_block c.command.block) ws) ++ flat_map itself group) none ∙ unchanged 0 0 0 news group (λ d there is. quiet d there)
+          ∙ sym (numbers-are group) ∙ ap (λ (l : List FileCommand). numbers_of (entries l)) g.is ∙ ap numbers_of (sym g.entries_are) in
           subst Rises (sym same) (rises-of list.entries (rise-in (config_of cs).lists list f.rising listed))
 
       -- else new and old entries are counted on
       counted : (word step count : ℕ) (other : ListText) → ((k : ℕ) → step * k < step * (k + 1)) → other.entries ≡ entries group → other.numbered ≡ true →
-          ((d : FileCommand) → Contains group d → news d ≡ of_number d.line (new_numbers (list_place other) word step count)) → Counts step 1 (before c.command) × (length (before c.command) ≡ count) → Rises (numbers (flat_map grown_at group))
+          ((d : FileCommand) → Contains group d → news d ≡ of_number d.line (new_numbers (list_place other) word step count)) →
+          Counts step 1 (before c.command) × (length (before c.command) ≡ count) → Rises (numbers (flat_map grown_at group))
       counted word step count other up same has news_are front =
           let long = front.1 in
           let old = renumbered word step count news 1 1 group (members-rise net places chosen router text lines cs f g.part g.first g.rest g.is x g.begun)
-          (λ d there is. news_are d there ∙ (λ i. of_number d.line (if has i then map (new_number word step count) (enumerate_from 1 (map (λ (h : Given Command). h.line) (same i))) else []))) has-number in
-          subst Rises (sym whole) (counts-rise step 1 (before c.command ++ flat_map itself group) up (counts-append step 1 (count + 1) (before c.command) (flat_map itself group) (omega (arith, long)) front.0 old))
+          (λ d there is. news_are d there
+          ∙ (λ i. of_number d.line (if has i then map (new_number word step count) (enumerate_from 1 (map (λ (h : Given Command). h.line) (same i))) else []))) has-number in
+          subst Rises (sym whole)
+          (counts-rise step 1 (before c.command ++ flat_map itself group) up (counts-append step 1 (count + 1) (before c.command) (flat_map itself group) (omega (arith, long)) front.0 old))
 
       packets-rise : list.kind ≢ kinds.Prefix → Rises (numbers (flat_map grown_at group))
       packets-rise kind = by (filter_map (class_for net router list.name) chosen) refl
         where
           by : (zs : List Class) → filter_map (class_for net router list.name) chosen ≡ zs → Rises (numbers (flat_map grown_at group))
           by [] made = as-before
-              (only-classes net places chosen router text lines cs f g.part g.first g.rest g.is x g.begun e more es c kind ∙ ap (map written_of) (no-class-here net places chosen router text lines cs f g.part g.first g.rest g.is x g.begun e more es c made))
+              (only-classes net places chosen router text lines cs f g.part g.first g.rest g.is x g.begun e more es c kind
+              ∙ ap (map written_of) (no-class-here net places chosen router text lines cs f g.part g.first g.rest g.is x g.begun e more es c made))
               (λ d there. no-packets net places chosen router text lines cs f g.part g.first g.rest g.is x g.begun d there kind made)
           by (z ∷ zs) made =
               let s = classes-found net places chosen router text lines cs f g.part g.first g.rest g.is x g.begun z zs made kind in
               let has = also-numbered s.has.list s.has.among s.is_this.entries_are in
-              let form : s.has.list.form ≡ forms.Block = ⊎_elim (λ block. block) (λ rows. absurd (false≢true (sym (lines-unnumbered (text_lines text) cs f.stand s.has.list s.has.among rows.0) ∙ has))) s.has.form in
+              let form : s.has.list.form ≡ forms.Block = ⊎_elim (λ block. block)
+              (λ rows. absurd (false≢true (sym (lines-unnumbered (text_lines text) cs f.stand s.has.list s.has.among rows.0) ∙ has))) s.has.form in
               let front = only-classes net places chosen router text lines cs f g.part g.first g.rest g.is x g.begun e more es c kind ∙
               ap (map written_of) (classes-here net places chosen router text lines cs f g.part g.first g.rest g.is x g.begun e more es c s.id s.row s.at s.here s.named s.has s.some s.is_this) in
-              counted 0 10 (length (list_classes chosen s.id)) s.has.list (λ k. omega arith) s.is_this.entries_are has (λ d there. some-packets net places chosen router text lines cs f g.part g.first g.rest g.is x g.begun d there kind s)
-              (subst (λ (ws : List Written). Counts 10 1 (numbers (map (in_block c.command.block) ws)) × (length (numbers (map (in_block c.command.block) ws)) ≡ length (list_classes chosen s.id))) (sym front)
+              counted 0 10 (length (list_classes chosen s.id)) s.has.list (λ k. omega arith) s.is_this.entries_are has
+              (λ d there. some-packets net places chosen router text lines cs f g.part g.first g.rest g.is x g.begun d there kind s)
+              (subst (λ (ws : List Written). Counts 10 1
+              (numbers (map (in_block c.command.block) ws)) × (length (numbers (map (in_block c.command.block) ws)) ≡ length (list_classes chosen s.id))) (sym front)
               (classes-count c.command.block (list_place s.has.list) s.row (list_classes chosen s.id) form has))
 
       routes-rise : list.kind ≡ kinds.Prefix → Rises (numbers (flat_map grown_at group))
@@ -127,15 +140,18 @@ module _ (net : Network) (places : List Places) (chosen : List Edit) (router : �
         where
           by : (zs : List Prefix) → filter_map (prefix_for net router list.name) chosen ≡ zs → Rises (numbers (flat_map grown_at group))
           by [] made = as-before
-              (only-prefixes net places chosen router text lines cs f g.part g.first g.rest g.is x g.begun e more es c kind ∙ ap (map written_of) (no-prefix-here net places chosen router text lines cs f g.part g.first g.rest g.is x g.begun e more es c made))
+              (only-prefixes net places chosen router text lines cs f g.part g.first g.rest g.is x g.begun e more es c kind
+              ∙ ap (map written_of) (no-prefix-here net places chosen router text lines cs f g.part g.first g.rest g.is x g.begun e more es c made))
               (λ d there. no-routes net places chosen router text lines cs f g.part g.first g.rest g.is x g.begun d there kind made)
           by (z ∷ zs) made =
               let s = prefixes-found net places chosen router text lines cs f g.part g.first g.rest g.is x g.begun z zs made kind in
               let has = also-numbered s.has.list s.has.among s.is_this.entries_are in
               let front = only-prefixes net places chosen router text lines cs f g.part g.first g.rest g.is x g.begun e more es c kind ∙
               ap (map written_of) (prefixes-here net places chosen router text lines cs f g.part g.first g.rest g.is x g.begun e more es c s.id s.row s.at s.here s.named s.has s.some s.is_this) in
-              counted 4 5 (length (list_prefixes chosen s.id)) s.has.list (λ k. omega arith) s.is_this.entries_are has (λ d there. some-routes net places chosen router text lines cs f g.part g.first g.rest g.is x g.begun d there kind s)
-              (subst (λ (ws : List Written). Counts 5 1 (numbers (map (in_block c.command.block) ws)) × (length (numbers (map (in_block c.command.block) ws)) ≡ length (list_prefixes chosen s.id))) (sym front)
+              counted 4 5 (length (list_prefixes chosen s.id)) s.has.list (λ k. omega arith) s.is_this.entries_are has
+              (λ d there. some-routes net places chosen router text lines cs f g.part g.first g.rest g.is x g.begun d there kind s)
+              (subst (λ (ws : List Written). Counts 5 1
+              (numbers (map (in_block c.command.block) ws)) × (length (numbers (map (in_block c.command.block) ws)) ≡ length (list_prefixes chosen s.id))) (sym front)
               (prefixes-count c.command.block 1 (list_place s.has.list) s.row (list_prefixes chosen s.id) has))
 
     -- the numbers of the list with the entries of the edits

@@ -64,7 +64,8 @@ lines-begun (commands.PrefixLine n order entry) name kind e = absurd (apart (ap 
     apart f = cc
 lines-begun _ name kind e = absurd (none-some _ e)
 
-pub prefixes-begun : (command : Command) (name : List ℕ) (kind : ListKind) → list_begun command ≡ Some (name, kind, forms.PrefixLines) → (order : Option ℕ) × (entry : RouteText) × (command ≡ commands.PrefixLine name order entry)
+pub prefixes-begun : (command : Command) (name : List ℕ) (kind : ListKind) → list_begun command ≡ Some (name, kind, forms.PrefixLines) →
+    (order : Option ℕ) × (entry : RouteText) × (command ≡ commands.PrefixLine name order entry)
 prefixes-begun (commands.ListBlock b n) name kind e = absurd (apart (ap (λ (x : List ℕ × ListKind × _). x.2) (same_Some _ _ e)))
   where
     apart : forms.Block ≡ forms.PrefixLines → ⊥
@@ -95,7 +96,8 @@ same-prefixes x y e = cc
 same-lines : (x y : List ℕ) → groups.Lines x ≡ groups.Lines y → x ≡ y
 same-lines x y e = cc
 
-pub prefix-entry : (block : ℕ) (name : List ℕ) (command : Command) → part_in block command ≡ groups.PrefixLines name → (order : Option ℕ) × (entry : RouteText) × (command ≡ commands.PrefixLine name order entry)
+pub prefix-entry : (block : ℕ) (name : List ℕ) (command : Command) → part_in block command ≡ groups.PrefixLines name →
+    (order : Option ℕ) × (entry : RouteText) × (command ≡ commands.PrefixLine name order entry)
 prefix-entry block name (commands.PrefixLine other order entry) part = (order, entry, ap (λ (x : List ℕ). commands.PrefixLine x order entry) (same-prefixes other name part))
 prefix-entry block name (commands.ListLine other entry) part = absurd (false≢true (subst (λ (q : Part). is_same (groups.Lines other) q ≡ true) part (is-self (groups.Lines other))))
 prefix-entry block name _ part = absurd (not-prefixes block name (sym part))
@@ -105,41 +107,39 @@ line-entry block name (commands.ListLine other entry) part = (entry, ap (λ (x :
 line-entry block name (commands.PrefixLine other order entry) part = absurd (false≢true (subst (λ (q : Part). is_same (groups.PrefixLines other) q ≡ true) part (is-self (groups.PrefixLines other))))
 line-entry block name _ part = absurd (not-lines block name (sym part))
 
--- in a list whose numbers rise, all entries have one where the first has
-pub all-numbered : (es : List (Given Command)) → ((line : ℕ) → ¬ FallsAt es line) → is_numbered es ≡ true → (k : ℕ) (g : Given Command) → slice_get es k ≡ Some g → (n : ℕ) × (entry_number g.value ≡ Some n)
-all-numbered [] rise is k g at = absurd (none-some g at)
-all-numbered (e ∷ es) rise is zero g at = number (entry_number g.value) (subst (λ (x : Given Command). is_some (entry_number x.value) ≡ true) (same_Some e g at) is)
+-- in a list whose numbers rise, all entries have one or none has
+pub numbered-alike : (es : List (Given Command)) → ((line : ℕ) → ¬ FallsAt es line) → (k : ℕ) (g : Given Command) → slice_get es k ≡ Some g → is_some (entry_number g.value) ≡ is_numbered es
+numbered-alike [] rise k g at = absurd (none-some g at)
+numbered-alike (e ∷ es) rise zero g at = ap (λ (x : Given Command). is_some (entry_number x.value)) (sym (same_Some e g at))
+numbered-alike (e ∷ es) rise (suc k) g at = next (before (e ∷ es) k g at) (λ h here. numbered-alike (e ∷ es) rise k h here)
+  where
+    before : (xs : List (Given Command)) (k : ℕ) (g : Given Command) → slice_get xs (suc k) ≡ Some g → (h : Given Command) × (slice_get xs k ≡ Some h)
+    before [] k g at = absurd (none-some g at)
+    before (x ∷ xs) zero g at = (x, refl)
+    before (x ∷ xs) (suc k) g at = before xs k g at
+
+    falling : (h : Given Command) → slice_get (e ∷ es) k ≡ Some h → rises (entry_number h.value) (entry_number g.value) ≡ false → ⊥
+    falling h here falls =
+        let step : k + 1 ≡ suc k = omega arith in
+        rise g.line (record { place = k; earlier = h; at_place = here; later = g; at_next = ap (slice_get (e ∷ es)) step ∙ at; falls = falls; is_line = refl })
+
+    by : (h : Given Command) → slice_get (e ∷ es) k ≡ Some h → (a b : Option ℕ) → entry_number h.value ≡ a → entry_number g.value ≡ b → is_some b ≡ is_some a
+    by h here None None one two = refl
+    by h here (Some m) (Some n) one two = refl
+    by h here None (Some n) one two = absurd (falling h here (λ i. rises (one i) (two i)))
+    by h here (Some m) None one two = absurd (falling h here (λ i. rises (one i) (two i)))
+
+    next : (h : Given Command) × (slice_get (e ∷ es) k ≡ Some h) → ((h : Given Command) → slice_get (e ∷ es) k ≡ Some h → is_some (entry_number h.value) ≡ is_numbered (e ∷ es)) →
+        is_some (entry_number g.value) ≡ is_numbered (e ∷ es)
+    next (h, here) earlier = by h here (entry_number h.value) (entry_number g.value) refl refl ∙ earlier h here
+
+pub all-numbered : (es : List (Given Command)) → ((line : ℕ) → ¬ FallsAt es line) → is_numbered es ≡ true → (k : ℕ) (g : Given Command) → slice_get es k ≡ Some g →
+    (n : ℕ) × (entry_number g.value ≡ Some n)
+all-numbered es rise is k g at = number (entry_number g.value) (numbered-alike es rise k g at ∙ is)
   where
     number : (o : Option ℕ) → is_some o ≡ true → (n : ℕ) × (o ≡ Some n)
     number None none = absurd (false≢true none)
     number (Some n) some = (n, refl)
-all-numbered (e ∷ es) rise is (suc k) g at = next (e ∷ es) rise k g at (λ h here. all-numbered (e ∷ es) rise is k h here)
-  where
-    next : (fs : List (Given Command)) → ((line : ℕ) → ¬ FallsAt fs line) → (k : ℕ) (g : Given Command) → slice_get fs (suc k) ≡ Some g → ((h : Given Command) → slice_get fs k ≡ Some h → (n : ℕ) × (entry_number h.value ≡ Some n)) →
-        (n : ℕ) × (entry_number g.value ≡ Some n)
-    next fs up k g at earlier =
-        let (h, here) = before fs k g at in
-        let (m, has) = earlier h here in
-        by h here m has (entry_number g.value) refl
-      where
-        before : (xs : List (Given Command)) (k : ℕ) (g : Given Command) → slice_get xs (suc k) ≡ Some g → (h : Given Command) × (slice_get xs k ≡ Some h)
-        before [] k g at = absurd (none-some g at)
-        before (x ∷ xs) zero g at = (x, refl)
-        before (x ∷ xs) (suc k) g at = before xs k g at
-
-        by : (h : Given Command) → slice_get fs k ≡ Some h → (m : ℕ) → entry_number h.value ≡ Some m → (o : Option ℕ) → entry_number g.value ≡ o → (n : ℕ) × (o ≡ Some n)
-        by h here m has (Some n) is = (n, refl)
-        by h here m has None is =
-            let step : k + 1 ≡ suc k = omega arith in
-            absurd (up g.line (record {
-              place = k;
-              earlier = h;
-              at_place = here;
-              later = g;
-              at_next = ap (slice_get fs) step ∙ at;
-              falls = (λ i. rises (has i) (is i));
-              is_line = refl;
-            }))
 
 pub rise-in : (lists : List ListText) (list : ListText) → NumbersRise lists → Contains lists list → (line : ℕ) → ¬ FallsAt list.entries line
 rise-in lists list rise there line falls = rise line (any_of (λ (l : ListText). FallsAt l.entries line) lists list there falls)
@@ -219,7 +219,8 @@ module _ (lines : List (List ℕ)) (cs : List FileCommand) (stand : AreCommandsI
       let (entry, is) = lines-begun h.first.command list.name list.kind (h.begun ∙ (λ i. Some (list.name, list.kind, form i))) in
       h.numbered_is ∙ by h.first.command entry is
     where
-      by : (command : Command) (entry : PacketText) → command ≡ commands.ListLine list.name entry → is_numbered (entries (record { line = h.first.line; block = h.first.block; command = command } ∷ h.rest)) ≡ false
+      by : (command : Command) (entry : PacketText) → command ≡ commands.ListLine list.name entry →
+          is_numbered (entries (record { line = h.first.line; block = h.first.block; command = command } ∷ h.rest)) ≡ false
       by command entry is = ap (λ (k : Command). is_numbered (entries (record { line = h.first.line; block = h.first.block; command = k } ∷ h.rest))) is
 
   -- the numbers of its entries

@@ -1,11 +1,12 @@
 -- With what edits put at the commands of a file nothing stands twice.
-use Rattle.std.proofs.Common.{◌≡◌, ◌≢◌, ℕ, ◌+◌, ◌⊎◌, inl, inr, true, false, Some, None, List, [], ◌∷◌, ◌++◌, map, refl, sym, ap, subst, ◌∙◌, ⊎_elim, Contains, length, ◌*◌, append-nil}
+use Rattle.std.proofs.Common.{◌≡◌, ◌≢◌, ℕ, ◌+◌, ◌⊎◌, inl, inr, true, false, Option, Some, None, List, [], ◌∷◌, ◌++◌, map, refl, sym, ap, subst, ◌∙◌, ⊎_elim, Contains, length, ◌*◌, append-nil}
 use Rattle.std.specs.Prelude.{AllPairs}
-use Rattle.std.specs.List.{AllByRecursion, enumerate_from, flat_map}
+use Rattle.std.specs.List.{AllByRecursion, enumerate_from, filter_map, flat_map}
+use Rattle.std.specs.Option.{option_and_then}
 use Rattle.std.proofs.lemmas.Bool.{false≢true}
 use Rattle.std.proofs.lemmas.Option.{same_Some, none-some}
 use Rattle.std.proofs.lemmas.List.Concat.{flat_map-append}
-use Rattle.std.proofs.lemmas.List.Elements.{Contains-append_cases, Contains-append_left, Contains-append_right}
+use Rattle.std.proofs.lemmas.List.Elements.{Contains-append_cases}
 use Rattle.arc_base.proofs.Items.{Contains-cases, Contains-none, Contains-head, Contains-tail, AllPairs-append, AllPairs-rest, AllPairs-first, AllPairs-none, AllPairs-single, from_map, from_piece}
 use Rattle.arc_base.specs.declared.prefix.Prefix.{Prefix}
 use Rattle.net_model.specs.declared.policies.Class.{Class}
@@ -18,11 +19,11 @@ use Rattle.ios_config.specs.declared.commands.FileCommand.{FileCommand}
 use Rattle.ios_config.specs.declared.settings.ListForm.{ListForm}
 use Rattle.ios_config.specs.declared.settings.ListForm.TheVariants as forms
 use Rattle.ios_config.specs.declared.settings.ListKind.{ListKind}
-use Rattle.ios_config.specs.declared.settings.ListKind.TheVariants.{Extended, Standard}
 use Rattle.ios_config.specs.Groups.{part_in}
 use Rattle.ios_config.specs.Texts.{is_entry, kind_of_number}
 use Rattle.ios_config.specs.Twice.{Stand, stand_of, excluded, Clash, StandOnce}
 use Rattle.ios_config.specs.Twice as stands
+use Rattle.net_rules.proofs.Distinct.{AllPairs-front, AllPairs-back, AllPairs-between}
 use Rattle.net_build.specs.declared.built.Places.{Places}
 use Rattle.edit_list.specs.declared.edit_kinds.Edit.{Edit}
 use Rattle.edit_list.specs.declared.list_kinds.NewList.{NewList}
@@ -32,6 +33,7 @@ use Rattle.arc_base.specs.Numbered.{of_number}
 use Rattle.line_patcher.specs.declared.additions.NewNumber.{NewNumber}
 use Rattle.line_patcher.specs.Additions.{numbers_at}
 use Rattle.edit_list.specs.NewLists.{named_lists}
+use Rattle.edit_list.proofs.NewListFacts.{picks}
 use Rattle.settings_edit_laws.proofs.Pairs.{any_of, of_any}
 use Rattle.line_edit_laws.specs.Sites.{Written, chunk_commands, in_block, says_other, new_commands}
 use Rattle.patch_laws.specs.EditFiles.{IsEditedFile}
@@ -74,7 +76,8 @@ apart-alike u c v d (inr one) (inr two) apart clash =
 entry-alike : (block : ℕ) (u c : Command) → is_entry u ≡ true → part_in block u ≡ part_in block c → Alike u c
 entry-alike block (commands.Entry order entry) c is same = inl (refl, refl)
 entry-alike block (commands.PrefixLine name order entry) c is same = inl (refl, refl)
-entry-alike block (commands.ListLine name entry) (commands.ListLine other more) is same = let names : name ≡ other = cc in inr (ap (λ (n : List ℕ). Some (stands.ListLines n)) names, ap (λ (n : List ℕ). stands.ListBlock n ∷ []) names)
+entry-alike block (commands.ListLine name entry) (commands.ListLine other more) is same = let names : name ≡ other =
+    cc in inr (ap (λ (n : List ℕ). Some (stands.ListLines n)) names, ap (λ (n : List ℕ). stands.ListBlock n ∷ []) names)
 entry-alike block (commands.ListLine name entry) (commands.PrefixLine other order more) is same = absurd cc
 entry-alike block (commands.ListLine name entry) _ is same = absurd cc
 entry-alike block _ c is same = absurd (false≢true is)
@@ -97,78 +100,30 @@ entry-apart (commands.ListLine name entry) is clash =
     (Contains-cases (stands.ListBlock name) found.0 [] found.1)
 entry-apart _ is clash = false≢true is
 
+only : {X : Type 0} (x a : X) → Contains (x ∷ []) a → x ≡ a
+only x a one = ⊎_elim (λ (here : x ≡ a). here) (λ none. absurd (Contains-none a none)) (Contains-cases x a [] one)
+
 all-pairs : {X : Type 0} (R : X → X → Type 0) (xs : List X) → ((x y : X) → Contains xs x → Contains xs y → R x y) → AllPairs R xs
 all-pairs R [] each = AllPairs-none R
 all-pairs {X} R (x ∷ xs) each = AllPairs-append R (x ∷ []) xs (AllPairs-single R x) (all-pairs R xs (λ a b one two. each a b (Contains-tail x a xs one) (Contains-tail x b xs two)))
-    (λ a b one two. each a b (subst (λ (y : X). Contains (x ∷ xs) y) (only a one) (Contains-head x xs)) (Contains-tail x b xs two))
-  where
-    only : (a : X) → Contains (x ∷ []) a → x ≡ a
-    only a one = ⊎_elim (λ (here : x ≡ a). here) (λ none. absurd (Contains-none a none)) (Contains-cases x a [] one)
+    (λ a b one two. each a b (subst (λ (y : X). Contains (x ∷ xs) y) (only x a one) (Contains-head x xs)) (Contains-tail x b xs two))
 
-pairs-left : {X : Type 0} (R : X → X → Type 0) (xs ys : List X) → AllPairs R (xs ++ ys) → AllPairs R xs
-pairs-left R [] ys all = AllPairs-none R
-pairs-left {X} R (x ∷ xs) ys all = AllPairs-append R (x ∷ []) xs (AllPairs-single R x) (pairs-left R xs ys (AllPairs-rest R x (xs ++ ys) all))
-    (λ a b one two. subst (λ (y : X). R y b) (only a one) (AllPairs-first R x b (xs ++ ys) all (Contains-append_left xs ys b two)))
-  where
-    only : (a : X) → Contains (x ∷ []) a → x ≡ a
-    only a one = ⊎_elim (λ (here : x ≡ a). here) (λ none. absurd (Contains-none a none)) (Contains-cases x a [] one)
-
-pairs-right : {X : Type 0} (R : X → X → Type 0) (xs ys : List X) → AllPairs R (xs ++ ys) → AllPairs R ys
-pairs-right R [] ys all = all
-pairs-right R (x ∷ xs) ys all = pairs-right R xs ys (AllPairs-rest R x (xs ++ ys) all)
-
-pairs-cross : {X : Type 0} (R : X → X → Type 0) (xs ys : List X) (x y : X) → AllPairs R (xs ++ ys) → Contains xs x → Contains ys y → R x y
-pairs-cross R [] ys x y all one two = absurd (Contains-none x one)
-pairs-cross {X} R (z ∷ xs) ys x y all one two = by (Contains-cases z x xs one) (pairs-cross R xs ys x y (AllPairs-rest R z (xs ++ ys) all))
-  where
-    by : (z ≡ x) ⊎ Contains xs x → (Contains xs x → Contains ys y → R x y) → R x y
-    by (inl here) deeper = subst (λ (w : X). R w y) here (AllPairs-first R z y (xs ++ ys) all (Contains-append_right xs ys y two))
-    by (inr later) deeper = deeper later two
+-- the list that stands
+abbrev list_stand : Stand → Option (List ℕ)
+list_stand (stands.ListBlock name) = Some name
+list_stand (stands.ListLines name) = Some name
+list_stand _ = None
 
 -- a list that stands under this name, or that may not stand beside one, is begun by the command
-stand-begun : (command : Command) (name : List ℕ) → (stand_of command ≡ Some (stands.ListBlock name)) ⊎ (stand_of command ≡ Some (stands.ListLines name)) → (k : ListKind) × (f : ListForm) × (list_begun command ≡ Some (name, k, f))
-stand-begun (commands.ListBlock true other) name (inl is) = let same : other ≡ name = name-of (same_Some _ _ is) in (_, _, λ i. Some (same i, Extended, forms.Block))
-  where
-    name-of : stands.ListBlock other ≡ stands.ListBlock name → other ≡ name
-    name-of e = cc
-stand-begun (commands.ListBlock false other) name (inl is) = let same : other ≡ name = name-of (same_Some _ _ is) in (_, _, λ i. Some (same i, Standard, forms.Block))
-  where
-    name-of : stands.ListBlock other ≡ stands.ListBlock name → other ≡ name
-    name-of e = cc
-stand-begun (commands.ListBlock extended other) name (inr is) = absurd (no-lines (same_Some _ _ is))
-  where
-    no-lines : stands.ListBlock other ≡ stands.ListLines name → ⊥
-    no-lines e = absurd cc
-stand-begun (commands.ListLine other entry) name (inr is) = let same : other ≡ name = name-of (same_Some _ _ is) in (_, _, λ i. Some (same i, kind_of_number other, forms.Lines))
-  where
-    name-of : stands.ListLines other ≡ stands.ListLines name → other ≡ name
-    name-of e = cc
-stand-begun (commands.ListLine other entry) name (inl is) = absurd (no-block (same_Some _ _ is))
-  where
-    no-block : stands.ListLines other ≡ stands.ListBlock name → ⊥
-    no-block e = absurd cc
-stand-begun (commands.Interface other) name is = absurd (⊎_elim (λ e. no-block (same_Some _ _ e)) (λ e. no-lines (same_Some _ _ e)) is)
-  where
-    no-block : stands.Interface other ≡ stands.ListBlock name → ⊥
-    no-block e = absurd cc
+stand-list : (command : Command) (name : List ℕ) → option_and_then list_stand (stand_of command) ≡ Some name → (k : ListKind) × (f : ListForm) × (list_begun command ≡ Some (name, k, f))
+stand-list (commands.ListBlock extended other) name is = let same : other ≡ name = same_Some other name is in (_, _, λ i. list_begun (commands.ListBlock extended (same i)))
+stand-list (commands.ListLine other entry) name is = let same : other ≡ name = same_Some other name is in (_, _, λ i. Some (same i, kind_of_number other, forms.Lines))
+stand-list _ name is = absurd (none-some name is)
 
-    no-lines : stands.Interface other ≡ stands.ListLines name → ⊥
-    no-lines e = absurd cc
-stand-begun (commands.RouterOspf other) name is = absurd (⊎_elim (λ e. no-block (same_Some _ _ e)) (λ e. no-lines (same_Some _ _ e)) is)
-  where
-    no-block : stands.Ospf other ≡ stands.ListBlock name → ⊥
-    no-block e = absurd cc
-
-    no-lines : stands.Ospf other ≡ stands.ListLines name → ⊥
-    no-lines e = absurd cc
-stand-begun (commands.RouterBgp other) name is = absurd (⊎_elim (λ e. no-block (same_Some _ _ e)) (λ e. no-lines (same_Some _ _ e)) is)
-  where
-    no-block : stands.Bgp other ≡ stands.ListBlock name → ⊥
-    no-block e = absurd cc
-
-    no-lines : stands.Bgp other ≡ stands.ListLines name → ⊥
-    no-lines e = absurd cc
-stand-begun _ name is = absurd (⊎_elim (λ e. none-some _ e) (λ e. none-some _ e) is)
+stand-begun : (command : Command) (name : List ℕ) → (stand_of command ≡ Some (stands.ListBlock name)) ⊎ (stand_of command ≡ Some (stands.ListLines name)) →
+    (k : ListKind) × (f : ListForm) × (list_begun command ≡ Some (name, k, f))
+stand-begun command name is =
+    stand-list command name (⊎_elim (λ block. ap (λ (o : Option Stand). option_and_then list_stand o) block) (λ lines. ap (λ (o : Option Stand). option_and_then list_stand o) lines) is)
 
 block-name : (other name : List ℕ) → stands.ListBlock other ≡ stands.ListBlock name → other ≡ name
 block-name other name e = cc
@@ -176,31 +131,15 @@ block-name other name e = cc
 lines-block : (other name : List ℕ) → stands.ListLines other ≡ stands.ListBlock name → ⊥
 lines-block other name e = absurd cc
 
+excluded-list : (command : Command) (name : List ℕ) → Contains (filter_map list_stand (excluded command)) name → (k : ListKind) × (f : ListForm) × (list_begun command ≡ Some (name, k, f))
+excluded-list (commands.ListBlock extended other) name there =
+    let same : other ≡ name = ⊎_elim (λ here. here) (λ later. only other name later) (Contains-cases other name (other ∷ []) there) in
+    (_, _, λ i. list_begun (commands.ListBlock extended (same i)))
+excluded-list (commands.ListLine other entry) name there = let same : other ≡ name = only other name there in (_, _, λ i. Some (same i, kind_of_number other, forms.Lines))
+excluded-list _ name there = absurd (Contains-none name there)
+
 excluded-begun : (command : Command) (name : List ℕ) → Contains (excluded command) (stands.ListBlock name) → (k : ListKind) × (f : ListForm) × (list_begun command ≡ Some (name, k, f))
-excluded-begun (commands.ListBlock extended other) name there = ⊎_elim
-    (λ (here : stands.ListBlock other ≡ stands.ListBlock name). let same = block-name other name here in (_, _, λ i. list_begun (commands.ListBlock extended (same i))))
-    (λ later. ⊎_elim
-    (λ (here : stands.ListLines other ≡ stands.ListBlock name). absurd (lines-block other name here))
-    (λ none. absurd (Contains-none _ none))
-    (Contains-cases (stands.ListLines other) (stands.ListBlock name) [] later))
-    (Contains-cases (stands.ListBlock other) (stands.ListBlock name) (stands.ListLines other ∷ []) there)
-excluded-begun (commands.ListLine other entry) name there = ⊎_elim
-    (λ (here : stands.ListBlock other ≡ stands.ListBlock name). let same = block-name other name here in (_, _, λ i. Some (same i, kind_of_number other, forms.Lines)))
-    (λ none. absurd (Contains-none _ none))
-    (Contains-cases (stands.ListBlock other) (stands.ListBlock name) [] there)
-excluded-begun (commands.Interface other) name there = absurd (⊎_elim (λ (here : stands.Interface other ≡ stands.ListBlock name). no here) (λ none. Contains-none _ none) (Contains-cases (stands.Interface other) (stands.ListBlock name) [] there))
-  where
-    no : stands.Interface other ≡ stands.ListBlock name → ⊥
-    no e = absurd cc
-excluded-begun (commands.RouterOspf other) name there = absurd (⊎_elim (λ (here : stands.Ospf other ≡ stands.ListBlock name). no here) (λ none. Contains-none _ none) (Contains-cases (stands.Ospf other) (stands.ListBlock name) [] there))
-  where
-    no : stands.Ospf other ≡ stands.ListBlock name → ⊥
-    no e = absurd cc
-excluded-begun (commands.RouterBgp other) name there = absurd (⊎_elim (λ (here : stands.Bgp other ≡ stands.ListBlock name). no here) (λ none. Contains-none _ none) (Contains-cases (stands.Bgp other) (stands.ListBlock name) [] there))
-  where
-    no : stands.Bgp other ≡ stands.ListBlock name → ⊥
-    no e = absurd cc
-excluded-begun _ name there = absurd (Contains-none _ there)
+excluded-begun command name there = excluded-list command name (picks list_stand (excluded command) (stands.ListBlock name) name there refl)
 
 -- what a command of a new list makes stand: nothing, or that list
 abbrev HeadsList : List (NewList × List ℕ) → Command → Type 0
@@ -219,22 +158,28 @@ written-silent block ws all t there =
     let (w, among, same) = from_map (in_block block) ws t there in
     subst (λ (v : FileCommand). IsSilent v.command) same (all-in (λ (x : Written). IsSilent x.command) ws w all among)
 
-chunk-stands : (chosen : List Edit) (key : ℕ) (n : NewList × List ℕ) (t : FileCommand) → Contains (flat_map chunk_commands (new_chunks chosen key n.0 n.1)) t → IsSilent t.command ⊎ (t.command ≡ commands.ListBlock true n.1)
+chunk-stands : (chosen : List Edit) (key : ℕ) (n : NewList × List ℕ) (t : FileCommand) → Contains (flat_map chunk_commands (new_chunks chosen key n.0 n.1)) t →
+    IsSilent t.command ⊎ (t.command ≡ commands.ListBlock true n.1)
 chunk-stands chosen key (Route face, name) t there =
-    inl (written-silent 0 (map written_of (new_route_commands name (new_prefixes chosen face.0))) (deny-silent name (enumerate_from 1 (new_prefixes chosen face.0)) (5 * (length (new_prefixes chosen face.0) + 1))) t
+    inl (written-silent 0 (map written_of (new_route_commands name (new_prefixes chosen face.0)))
+    (deny-silent name (enumerate_from 1 (new_prefixes chosen face.0)) (5 * (length (new_prefixes chosen face.0) + 1))) t
     (subst (λ (l : List FileCommand). Contains l t) (single-commands (map written_of (new_route_commands name (new_prefixes chosen face.0)))) there))
 chunk-stands chosen key (Packet face, name) t there =
     let entries = map (in_block key) (map written_of (new_entries (new_classes chosen face.0))) in
     ⊎_elim
     (λ (here : in_block key (written_of (commands.ListBlock true name)) ≡ t). inr (ap (λ (v : FileCommand). v.command) (sym here)))
     (λ later. inl (written-silent key (map written_of (new_entries (new_classes chosen face.0))) (class-silent (new_classes chosen face.0)) t later))
-    (Contains-cases (in_block key (written_of (commands.ListBlock true name))) t entries (subst (λ (l : List FileCommand). Contains l t) (append-nil (in_block key (written_of (commands.ListBlock true name)) ∷ entries)) there))
+    (Contains-cases (in_block key (written_of (commands.ListBlock true name))) t entries
+    (subst (λ (l : List FileCommand). Contains l t) (append-nil (in_block key (written_of (commands.ListBlock true name)) ∷ entries)) there))
 
 chunk-once : (chosen : List Edit) (key : ℕ) (n : NewList × List ℕ) → AllPairs Apart (flat_map chunk_commands (new_chunks chosen key n.0 n.1))
 chunk-once chosen key (Route face, name) = all-pairs Apart _ (λ x y in_x in_y clash. by x (chunk-stands chosen key (Route face, name) x in_x) in_x y clash)
   where
-    by : (x : FileCommand) → IsSilent x.command ⊎ (x.command ≡ commands.ListBlock true name) → Contains (flat_map chunk_commands (new_chunks chosen key (Route face) name)) x → (y : FileCommand) → Clash x.command y.command → ⊥
-    by x stands_x in_x y clash = silent-first x.command y.command (written-silent 0 (map written_of (new_route_commands name (new_prefixes chosen face.0))) (deny-silent name (enumerate_from 1 (new_prefixes chosen face.0)) (5 * (length (new_prefixes chosen face.0) + 1))) x
+    by : (x : FileCommand) → IsSilent x.command ⊎ (x.command ≡ commands.ListBlock true name) → Contains (flat_map chunk_commands (new_chunks chosen key (Route face) name)) x →
+        (y : FileCommand) → Clash x.command y.command → ⊥
+    by x stands_x in_x y clash = silent-first x.command y.command
+        (written-silent 0 (map written_of (new_route_commands name (new_prefixes chosen face.0)))
+        (deny-silent name (enumerate_from 1 (new_prefixes chosen face.0)) (5 * (length (new_prefixes chosen face.0) + 1))) x
         (subst (λ (l : List FileCommand). Contains l x) (single-commands (map written_of (new_route_commands name (new_prefixes chosen face.0)))) in_x)).0 clash
 chunk-once chosen key (Packet face, name) =
     let entries = map (in_block key) (map written_of (new_entries (new_classes chosen face.0))) in
@@ -251,7 +196,8 @@ added-stands chosen key (n ∷ ns) t there =
     (subst (λ (l : List FileCommand). Contains l t) (flat_map-append chunk_commands (new_chunks chosen key n.0 n.1) (list_chunks chosen (key + 1) ns)) there))
     (added-stands chosen (key + 1) ns t)
   where
-    by : Contains (flat_map chunk_commands (new_chunks chosen key n.0 n.1)) t ⊎ Contains (flat_map chunk_commands (list_chunks chosen (key + 1) ns)) t → (Contains (flat_map chunk_commands (list_chunks chosen (key + 1) ns)) t → HeadsList ns t.command) →
+    by : Contains (flat_map chunk_commands (new_chunks chosen key n.0 n.1)) t ⊎ Contains (flat_map chunk_commands (list_chunks chosen (key + 1) ns)) t →
+        (Contains (flat_map chunk_commands (list_chunks chosen (key + 1) ns)) t → HeadsList ns t.command) →
         HeadsList (n ∷ ns) t.command
     by (inl early) deeper = ⊎_elim (λ silent. inl silent) (λ head. inr (n, Contains-head n ns, head)) (chunk-stands chosen key n t early)
     by (inr late) deeper = ⊎_elim (λ silent. inl silent) (λ head. inr (head.0, Contains-tail n head.0 ns head.1, head.2)) (deeper late)
@@ -285,7 +231,8 @@ added-once chosen key (n ∷ ns) different =
         names-apart n.1 m.1 (all-in (λ (other : NewList × List ℕ). n.1 ≢ other.1) ns m different.0 among)
         (subst (λ (u : Command). Clash u (commands.ListBlock true m.1)) one (subst (λ (u : Command). Clash x.command u) two clash))
 
-module _ (net : Network) (places : List Places) (chosen : List Edit) (router : ℕ) (text : List ℕ) (lines : Lines) (cs : List FileCommand) (f : IsEditedFile net places chosen router text lines cs) where
+module _ (net : Network) (places : List Places) (chosen : List Edit) (router : ℕ) (text : List ℕ) (lines : Lines) (cs : List FileCommand)
+    (f : IsEditedFile net places chosen router text lines cs) where
   abbrev grown_at : FileCommand → List FileCommand
   grown_at c = grow_at net places chosen router text lines cs c
 
@@ -344,10 +291,12 @@ module _ (net : Network) (places : List Places) (chosen : List Edit) (router : �
       (once-grown ds (λ c there. within c (Contains-tail d c ds there)) (AllPairs-rest Apart d ds once))
       (λ x y in_x in_y.
       let (e, in_ds, in_e) = from_piece grown_at ds y in_y in
-      apart-alike x.command d.command y.command e.command (grow-alike d x (within d (Contains-head d ds)) in_x) (grow-alike e y (within e (Contains-tail d e ds in_ds)) in_e) (AllPairs-first Apart d e ds once in_ds))
+      apart-alike x.command d.command y.command e.command (grow-alike d x (within d (Contains-head d ds)) in_x) (grow-alike e y (within e (Contains-tail d e ds in_ds)) in_e)
+      (AllPairs-first Apart d e ds once in_ds))
 
   -- new lists are none of the file's
-  no-list : (named : NewList × List ℕ) (c : FileCommand) (k : ListKind) (form : ListForm) → Contains (named_lists net chosen router) named → Contains cs c → list_begun c.command ≡ Some (named.1, k, form) → ⊥
+  no-list : (named : NewList × List ℕ) (c : FileCommand) (k : ListKind) (form : ListForm) → Contains (named_lists net chosen router) named → Contains cs c →
+      list_begun c.command ≡ Some (named.1, k, form) → ⊥
   no-list named c k form among has begun = let l = listed (text_lines text) cs c named.1 k form f.stand has begun in f.free named among l.list l.among l.name_is
 
   old-new : (c x t : FileCommand) → Contains cs c → Alike x.command c.command → HeadsList (named_lists net chosen router) t.command → Clash x.command t.command → ⊥
@@ -383,8 +332,8 @@ module _ (net : Network) (places : List Places) (chosen : List Edit) (router : �
       let old : AllPairs Apart (s.front ++ back) = subst (AllPairs Apart) s.parts f.once in
       let in_f = in-front net places chosen router text lines cs f in
       let in_b = in-back net places chosen router text lines cs f in
-      let front_once = once-grown s.front in_f (pairs-left Apart s.front back old) in
-      let back_once = once-grown back in_b (pairs-right Apart s.front back old) in
+      let front_once = once-grown s.front in_f (AllPairs-front Apart s.front back old) in
+      let back_once = once-grown back in_b (AllPairs-back Apart s.front back old) in
       let more_once = added-once chosen (new_key lines) (named_lists net chosen router) f.different in
       let stand = added-stands chosen (new_key lines) (named_lists net chosen router) in
       subst (AllPairs Apart) (sym (grown-is net places chosen router text lines cs f))
@@ -397,5 +346,5 @@ module _ (net : Network) (places : List Places) (chosen : List Edit) (router : �
       ⊎_elim
       (λ new clash. old-new c x y (in_f c in_c) mine (stand y new) clash)
       (λ later. (let (d, in_d, in_other) = from_piece grown_at back y later in
-      apart-alike x.command c.command y.command d.command mine (grow-alike d y (in_b d in_d) in_other) (pairs-cross Apart s.front back c d old in_c in_d)))
+      apart-alike x.command c.command y.command d.command mine (grow-alike d y (in_b d in_d) in_other) (AllPairs-between Apart s.front back c d old in_c in_d)))
       (Contains-append_cases more (flat_map grown_at back) y in_y)))

@@ -98,7 +98,8 @@ pub data EndAt (net : Network) (places : List Places) (chosen : List Edit) (rout
   OfProcess : (h : HasProcess cs process) → c ≡ h.last → Contains (process_commands net chosen router) w.command → EndAt net places chosen router cs process c w
   OfFace : FaceEnd net places chosen router cs c w → EndAt net places chosen router cs process c w
 
-module _ (net : Network) (places : List Places) (chosen : List Edit) (router : ℕ) (text : List ℕ) (lines : Lines) (cs : List FileCommand) (f : IsEditedFile net places chosen router text lines cs) where
+module _ (net : Network) (places : List Places) (chosen : List Edit) (router : ℕ) (text : List ℕ) (lines : Lines) (cs : List FileCommand)
+    (f : IsEditedFile net places chosen router text lines cs) where
   abbrev own_of : Places
   own_of = places_of (config_of cs)
 

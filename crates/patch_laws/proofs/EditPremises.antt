@@ -31,7 +31,8 @@ use Rattle.settings_edit_laws.proofs.FittingEdits.{edits_fit}
 use Rattle.arc_base.proofs.Zips.{AllZip-right}
 use Rattle.settings_edit_laws.proofs.Writable.{network_written}
 use Rattle.patch_laws.specs.EditFiles.{HaveListLines, IsEditedFile}
-use Rattle.patch_laws.specs.EditSiteLaws.{CommandsHaveListLines, CommandsGrowByEdits, EditSitesAreGood, EditSitesAreThere, EditedFilesAreFiles, EditedFilesAreSited, EditedFilesHaveTheNetwork, EditedTextsCanBePatched, own_places}
+use Rattle.patch_laws.specs.EditSiteLaws.{CommandsHaveListLines, CommandsGrowByEdits, EditSitesAreGood, EditSitesAreThere, EditedFilesAreFiles, EditedFilesAreSited}
+use Rattle.patch_laws.specs.EditSiteLaws.{EditedFilesHaveTheNetwork, EditedTextsCanBePatched, own_places}
 use Rattle.patch_laws.specs.EditSites.{added, grow, new_key, put}
 use Rattle.patch_laws.specs.Files.{AreSited, IsSited}
 use Rattle.patch_laws.specs.Laws.{SessionFilesHaveTheNetwork}
@@ -46,7 +47,8 @@ use Rattle.patch_laws.proofs.LinesExist.{no_orphans}
 abbrev AreInExtended : Network → List Edit → Type 0
 AreInExtended net chosen = (id : ℕ) (row : PacketList) → slice_get net.packet_lists id ≡ Some row → list_classes chosen id ≢ [] → row.extended ≡ true
 
-module _ (have_lines : CommandsHaveListLines) (doc : Document) (files : List (List ℕ)) (built : Built) (was : IsBuilt doc files built) (chosen : List Edit) (valid : IsValid built.net) (small : IsCountable built.net) (extended : AreInExtended built.net chosen)
+module _ (have_lines : CommandsHaveListLines) (doc : Document) (files : List (List ℕ)) (built : Built) (was : IsBuilt doc files built) (chosen : List Edit) (valid : IsValid built.net)
+    (small : IsCountable built.net) (extended : AreInExtended built.net chosen)
     (said : AreSaid chosen) (room : HasRoom chosen was.network.configs) where
   abbrev net : Network
   net = built.net
@@ -55,7 +57,8 @@ module _ (have_lines : CommandsHaveListLines) (doc : Document) (files : List (Li
   route-valid id p at_p = All-contains (IsValidRouteList net) net.route_lists p valid.route_lists (item_at_place net.route_lists id p at_p)
 
   -- each file is one that the edits can be put into
-  file-of : (router : ℕ) (config : Config) (text : List ℕ) (says : Says text config) (lines : Lines) → slice_get was.network.configs router ≡ Some config → AreLinesOf text lines → IsEditedFile net built.places chosen router text lines says.is_config.commands
+  file-of : (router : ℕ) (config : Config) (text : List ℕ) (says : Says text config) (lines : Lines) → slice_get was.network.configs router ≡ Some config → AreLinesOf text lines →
+      IsEditedFile net built.places chosen router text lines says.is_config.commands
   file-of router config text says lines at_c are_lines =
       let cs : List FileCommand = says.is_config.commands in
       let set : config ≡ config_of cs = says.is_config.set in
@@ -83,8 +86,10 @@ module _ (have_lines : CommandsHaveListLines) (doc : Document) (files : List (Li
         names = new-names net valid small chosen router room.new said.new;
         different = new-different net valid small chosen router;
         free = λ named there l in_lists. new-free net valid small chosen router row config at_row is_row named there l (subst (λ (c : Config). Contains c.lists l) (sym set) in_lists);
-        packets = λ id p at_p own some. has-packets cs listed router was.network.configs at p own ((was.network.rows.base.packet_lists.just p).0 (item_at_place net.packet_lists id p at_p)) (extended id p at_p some);
-        routes = λ id p at_p own some. has-routes cs listed router was.network.configs at p own ((was.network.rows.base.route_lists.just p).0 (item_at_place net.route_lists id p at_p)) (route-valid id p at_p).name;
+        packets = λ id p at_p own some. has-packets cs listed router was.network.configs at p own
+            ((was.network.rows.base.packet_lists.just p).0 (item_at_place net.packet_lists id p at_p)) (extended id p at_p some);
+        routes = λ id p at_p own some. has-routes cs listed router was.network.configs at p own ((was.network.rows.base.route_lists.just p).0 (item_at_place net.route_lists id p at_p))
+            (route-valid id p at_p).name;
         classes = said.lists;
         faces = λ face name there. has-face doc files built was router config at_c chosen valid small cs set face name there;
         room = λ l in_lists. room.old config (item_at_place was.network.configs router config at_c) l (subst (λ (c : Config). Contains c.lists l) (sym set) in_lists);
@@ -98,7 +103,8 @@ module _ (have_lines : CommandsHaveListLines) (doc : Document) (files : List (Li
       let set : config ≡ config_of cs = says.is_config.set in
       let file = file-of router config text says lines at_c are_lines in
       let g = grows net built.places chosen router text lines cs file in
-      subst (λ (c : Config). IsSited net chosen router text lines cs (lines_before net (places_of c) chosen router) (numbers_at net (places_of c) chosen router) (lines_after net built.places (places_of c) chosen router)) (sym set) (record {
+      subst (λ (c : Config). IsSited net chosen router text lines cs (lines_before net (places_of c) chosen router) (numbers_at net (places_of c) chosen router)
+      (lines_after net built.places (places_of c) chosen router)) (sym set) (record {
         put = put net built.places (own_places cs) chosen router text lines (new_key lines);
         can = can net built.places chosen router text lines cs file;
         have = there net built.places chosen router text lines cs file;
@@ -119,11 +125,13 @@ module _ (have_lines : CommandsHaveListLines) (doc : Document) (files : List (Li
 
 pub edited-files : CommandsHaveListLines → EditedFilesAreFiles
 edited-files have_lines doc files built was list flags valid small ends are room router config text says lines at_c at_t are_lines =
-    file-of have_lines doc files built was (chosen_of list flags) valid small (λ id row at some. edited-extended built.net id row at doc list flags are some) (edits-said built.net doc list flags are) room router config text says lines at_c are_lines
+    file-of have_lines doc files built was (chosen_of list flags) valid small (λ id row at some. edited-extended built.net id row at doc list flags are some)
+    (edits-said built.net doc list flags are) room router config text says lines at_c are_lines
 
 pub edited-sited : CommandsHaveListLines → EditSitesAreThere → EditedTextsCanBePatched → EditSitesAreGood → CommandsGrowByEdits → EditedFilesAreSited
 edited-sited have_lines there can good grows doc files built was list flags valid small ends are room =
-    sited-of have_lines doc files built was (chosen_of list flags) valid small (λ id row at some. edited-extended built.net id row at doc list flags are some) (edits-said built.net doc list flags are) room there can good grows
+    sited-of have_lines doc files built was (chosen_of list flags) valid small (λ id row at some. edited-extended built.net id row at doc list flags are some)
+    (edits-said built.net doc list flags are) room there can good grows
 
 pub edited-network : EditedFilesAreSited → EditedFilesHaveTheNetwork
 edited-network sited doc files new built was list flags after valid small ends are room patched is =

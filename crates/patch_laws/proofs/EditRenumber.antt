@@ -1,12 +1,12 @@
 -- The rows that have new numbers: each is read as the old one with its new number.
-use Rattle.std.proofs.Common.{◌≡◌, ◌≢◌, ℕ, suc, ◌+◌, ◌*◌, ◌^◌, ◌<◌, ◌≤◌, ◌⊎◌, inl, inr, Bool, true, false, if◌then◌else◌, Option, Some, List, [], ◌∷◌, length, map, refl, sym, ap, subst, ◌∙◌, arith, ⊎_elim, Contains, decimal}
+use Rattle.std.proofs.Common.{◌≡◌, ◌≢◌, ℕ, ◌+◌, ◌*◌, ◌^◌, ◌<◌, ◌≤◌, ◌⊎◌, inl, inr, true, false, Option, Some, List, ◌∷◌, length, map, refl, sym, ap, subst, ◌∙◌, arith, ⊎_elim, Contains, decimal}
 use Rattle.std.specs.Prelude.{slice_get}
-use Rattle.std.specs.List.{enumerate_from, filter_map, flat_map}
+use Rattle.std.specs.List.{flat_map}
 use Rattle.std.proofs.lemmas.Bool.{cases_Bool, false≢true}
 use Rattle.std.proofs.lemmas.Option.{slice_get_within}
 use Rattle.std.proofs.lemmas.List.Elements.{Contains-append_cases}
 use Rattle.arc_base.specs.declared.span.Span.{Span}
-use Rattle.arc_base.proofs.Items.{Contains-cases, Contains-none, Contains-head, from_map, from_piece}
+use Rattle.arc_base.proofs.Items.{Contains-head, from_piece}
 use Rattle.net_model.proofs.Readings.{item_at_place}
 use Rattle.net_model.specs.declared.lists.PacketList.{PacketList}
 use Rattle.net_model.specs.declared.lists.RouteList.{RouteList}
@@ -24,78 +24,28 @@ use Rattle.ios_words.specs.Language.{rows}
 use Rattle.ios_words.specs.Numbers.{list_kind}
 use Rattle.arc_base.specs.PrefixText.{number_of}
 use Rattle.ios_config.specs.declared.commands.FileCommand.{FileCommand}
-use Rattle.ios_config.specs.declared.settings.Given.{Given}
 use Rattle.ios_config.specs.declared.settings.ListForm.TheVariants as forms
-use Rattle.ios_config.specs.declared.settings.ListText.{ListText}
-use Rattle.ios_config.specs.Texts.{config_of, entry_number}
+use Rattle.ios_config.specs.Texts.{entry_number}
 use Rattle.net_build.specs.declared.built.ListPlace.{ListPlace}
 use Rattle.net_build.specs.declared.built.Places.{Places}
-use Rattle.net_build.specs.Places.{list_place}
 use Rattle.edit_list.specs.declared.edit_kinds.Edit.{Edit}
 use Rattle.edit_list.specs.Changes.{list_prefixes, list_classes, packet_list_change, route_list_change}
-use Rattle.arc_base.specs.Numbered.{if_number, of_number}
-use Rattle.edit_list.proofs.Counts.{few_picked}
+use Rattle.arc_base.specs.Numbered.{of_number}
 use Rattle.line_patcher.specs.declared.additions.NewNumber.{NewNumber}
 use Rattle.line_patcher.specs.Additions.{numbers_at}
-use Rattle.line_patcher.specs.EntryLines.{new_number, new_numbers, edited_packet_lists, edited_route_lists, packet_list_numbers, route_list_numbers}
+use Rattle.line_patcher.specs.EntryLines.{new_numbers, edited_packet_lists, edited_route_lists, packet_list_numbers, route_list_numbers}
+use Rattle.line_patcher.proofs.Tables.{few_put}
 use Rattle.line_edit_laws.specs.Sites.{IsOfBlock, Site}
 use Rattle.patch_laws.specs.EditFiles.{HasPacketList, HasRouteList, IsEditedFile}
 use Rattle.patch_laws.specs.EditSiteLaws.{own_places}
 use Rattle.patch_laws.specs.EditSites.{with_number}
 use Rattle.patch_laws.specs.EntrySites.{HasRow, IsRenumbered, IsSequenced}
-use Rattle.patch_laws.proofs.EditBusy.{packets-of, routes-of}
+use Rattle.patch_laws.proofs.EditBusy.{NumberAt, number-at, packets-of, routes-of}
 use Rattle.patch_laws.proofs.EditLists.{entry-command, list-group, packets-have, routes-have, from-number}
 use Rattle.patch_laws.proofs.EditNumbers.{block-entry-of, lines-unnumbered, number-of, prefix-entry, prefix-entry-of}
-use Rattle.patch_laws.proofs.EditRows.{CommandRow, command-row, mapped-at, one-command}
+use Rattle.patch_laws.proofs.EditRows.{CommandRow, command-row, one-command}
 use Rattle.patch_laws.proofs.EntrySites.{entries-renumbered}
 use Rattle.patch_laws.proofs.RenumberedPrefixes.{prefixes-renumbered, numbers-are-words}
-
--- where an entry with its place is
-pub at-enumerated : {X : Type 0} (n : ℕ) (xs : List X) (item : ℕ × X) → Contains (enumerate_from n xs) item → (k : ℕ) × (item.0 ≡ n + k) × (slice_get xs k ≡ Some item.1)
-at-enumerated n [] item there = absurd (Contains-none item there)
-at-enumerated n (x ∷ xs) item there = ⊎_elim
-    (λ same. (0, ap (λ p. p.0) (sym same) ∙ omega arith, ap (λ p. Some (p.1)) same))
-    (λ more. let (k, number, at) = at-enumerated (n + 1) xs item more in (suc k, number ∙ omega arith, at))
-    (Contains-cases (n, x) item (enumerate_from (n + 1) xs) there)
-
--- a new number of a list's entry
-pub record NumberAt (list : ListText) (word step count : ℕ) (item : ℕ × NewNumber) : Type 0 where
-  pub numbered : list.numbered ≡ true
-  pub place : ℕ
-  pub entry : Given Command
-  pub at : slice_get list.entries place ≡ Some entry
-  pub line : item.0 ≡ entry.line
-  pub new : item.1 ≡ record { word = word; number = step * (count + (1 + place)) }
-
-pub number-at : (list : ListText) (word step count : ℕ) (item : ℕ × NewNumber) → Contains (new_numbers (list_place list) word step count) item → NumberAt list word step count item
-number-at list word step count item among = by list.numbered refl among
-  where
-    by : (b : Bool) → list.numbered ≡ b → Contains (if b then map (new_number word step count) (enumerate_from 1 (map (λ (g : Given Command). g.line) list.entries)) else []) item → NumberAt list word step count item
-    by false e has = absurd (Contains-none item has)
-    by true e has =
-        let (entry, in_places, is) = from_map (new_number word step count) (enumerate_from 1 (map (λ (g : Given Command). g.line) list.entries)) item has in
-        let (k, number, at) = at-enumerated 1 (map (λ (g : Given Command). g.line) list.entries) entry in_places in
-        let (g, here, line) = mapped-at (λ (x : Given Command). x.line) list.entries k entry.1 at in
-        record {
-          numbered = e;
-          place = k;
-          entry = g;
-          at = here;
-          line = ap (λ (p : ℕ × NewNumber). p.0) (sym is) ∙ sym line;
-          new = ap (λ (p : ℕ × NewNumber). p.1) (sym is) ∙ (λ i. record { word = word; number = step * (count + number i) });
-        }
-
-pub few-classes : (chosen : List Edit) (id : ℕ) → length (list_classes chosen id) ≤ length chosen
-few-classes chosen id =
-    let one = few_picked (if_number id) (filter_map packet_list_change chosen) in
-    let two = few_picked packet_list_change chosen in
-    omega arith
-
-pub few-prefixes : (chosen : List Edit) (id : ℕ) → length (list_prefixes chosen id) ≤ length chosen
-few-prefixes chosen id =
-    let one = few_picked (if_number id) (filter_map route_list_change chosen) in
-    let two = few_picked route_list_change chosen in
-    omega arith
 
 -- the row has a word for the new number, and is read with it as the command with it
 pub record IsNewRow (text : List ℕ) (cs : List FileCommand) (c : FileCommand) (row : Line) (new : NewNumber) : Type 0 where
@@ -103,7 +53,8 @@ pub record IsNewRow (text : List ℕ) (cs : List FileCommand) (c : FileCommand) 
   pub at : slice_get row.words new.word ≡ Some span
   pub small : new.number < 2 ^ 64
   pub stands : (c.block ≡ 0) ⊎ IsOfBlock cs c kinds.Extended
-  pub renumbered : (more : List NewNumber) (site : Site) → site.line ≡ rewritten text row span (decimal new.number) → site.command ≡ with_number c.command (new ∷ more) → IsRenumbered text cs c row new.word new.number site
+  pub renumbered : (more : List NewNumber) (site : Site) → site.line ≡ rewritten text row span (decimal new.number) → site.command ≡ with_number c.command (new ∷ more) →
+      IsRenumbered text cs c row new.word new.number site
 
 module _ (sequences : (ws : List (List ℕ)) (list : List ℕ) (n : ℕ) (entry : RouteText) → ReadBy false ws (rows kinds.Top) (commands.PrefixLine list (Some n) entry) → IsSequenced ws)
     (net : Network) (places : List Places) (chosen : List Edit) (router : ℕ) (text : List ℕ) (lines : Lines) (cs : List FileCommand) (file : IsEditedFile net places chosen router text lines cs)
@@ -140,7 +91,7 @@ module _ (sequences : (ws : List (List ℕ)) (list : List ℕ) (n : ℕ) (entry 
           let (span, at) = (numbers-are-words text r.row).0 old b.entry reads in
           let low = slice_get_within h.list.entries n.place n.entry n.at in
           let room = file.room h.list h.among in
-          let few = few-classes chosen id in
+          let few : length (list_classes chosen id) ≤ length chosen = few_put packet_list_change chosen id in
           let count : new.number ≡ 10 * (length (list_classes chosen id) + (1 + n.place)) = ap (λ (x : NewNumber). x.number) n.new in
           let word : new.word ≡ 0 = ap (λ (x : NewNumber). x.word) n.new in
           record {
@@ -177,7 +128,7 @@ module _ (sequences : (ws : List (List ℕ)) (list : List ℕ) (n : ℕ) (entry 
       let (span, at) = (numbers-are-words text r.row).1 sequenced in
       let low = slice_get_within h.list.entries n.place n.entry n.at in
       let room = file.room h.list h.among in
-      let few = few-prefixes chosen id in
+      let few : length (list_prefixes chosen id) ≤ length chosen = few_put route_list_change chosen id in
       let count : new.number ≡ 5 * (length (list_prefixes chosen id) + (1 + n.place)) = ap (λ (x : NewNumber). x.number) n.new in
       let word : new.word ≡ 4 = ap (λ (x : NewNumber). x.word) n.new in
       record {
@@ -194,43 +145,20 @@ module _ (sequences : (ws : List (List ℕ)) (list : List ℕ) (n : ℕ) (entry 
   -- the row of a command that has a new number
   pub new-row : (new : NewNumber) (more : List NewNumber) → of_number c.line (numbers_at net own chosen router) ≡ new ∷ more → IsNewRow text cs c r.row new
   new-row new more are =
-      let there : Contains (numbers_at net own chosen router) (c.line, new) = from-number c.line (numbers_at net own chosen router) new (subst (λ (l : List NewNumber). Contains l new) (sym are) (Contains-head new more)) in
+      let there : Contains (numbers_at net own chosen router) (c.line, new) =
+      from-number c.line (numbers_at net own chosen router) new (subst (λ (l : List NewNumber). Contains l new) (sym are) (Contains-head new more)) in
       ⊎_elim
       (λ packets.
       let (id, in_ids, has) = from_piece (packet_list_numbers net own chosen) (edited_packet_lists net chosen router) (c.line, new) packets in
       let (row, at, h) = packets-of net places chosen router text lines cs file id in_ids in
-      let here = subst (λ (l : List (ℕ × NewNumber)). Contains l (c.line, new)) (packets-have net cs (λ (list : PacketList) (place : ListPlace). new_numbers place 0 10 (length (list_classes chosen id))) id row h at) has in
+      let here = subst (λ (l : List (ℕ × NewNumber)). Contains l (c.line, new))
+      (packets-have net cs (λ (list : PacketList) (place : ListPlace). new_numbers place 0 10 (length (list_classes chosen id))) id row h at) has in
       packet-row id row h new (number-at h.list 0 10 (length (list_classes chosen id)) (c.line, new) here))
       (λ routes.
       let (id, in_ids, has) = from_piece (route_list_numbers net own chosen) (edited_route_lists net chosen router) (c.line, new) routes in
       let (row, at, h) = routes-of net places chosen router text lines cs file id in_ids in
-      let here = subst (λ (l : List (ℕ × NewNumber)). Contains l (c.line, new)) (routes-have net cs (λ (list : RouteList) (place : ListPlace). new_numbers place 4 5 (length (list_prefixes chosen id))) id row h at) has in
+      let here = subst (λ (l : List (ℕ × NewNumber)). Contains l (c.line, new))
+      (routes-have net cs (λ (list : RouteList) (place : ListPlace). new_numbers place 4 5 (length (list_prefixes chosen id))) id row h at) has in
       route-row id row h new (number-at h.list 4 5 (length (list_prefixes chosen id)) (c.line, new) here))
-      (Contains-append_cases (flat_map (packet_list_numbers net own chosen) (edited_packet_lists net chosen router)) (flat_map (route_list_numbers net own chosen) (edited_route_lists net chosen router)) (c.line, new) there)
-
-  -- the list of a command that has a new number has numbers
-  pub record NumberedList : Type 0 where
-    pub list : ListText
-    pub listed : Contains (config_of cs).lists list
-    pub numbered : list.numbered ≡ true
-    pub entry : Given Command
-    pub has : Contains list.entries entry
-    pub line : c.line ≡ entry.line
-
-  pub numbered-list : (new : NewNumber) (more : List NewNumber) → of_number c.line (numbers_at net own chosen router) ≡ new ∷ more → NumberedList
-  numbered-list new more are =
-      let there : Contains (numbers_at net own chosen router) (c.line, new) = from-number c.line (numbers_at net own chosen router) new (subst (λ (l : List NewNumber). Contains l new) (sym are) (Contains-head new more)) in
-      ⊎_elim
-      (λ packets.
-      let (id, in_ids, has) = from_piece (packet_list_numbers net own chosen) (edited_packet_lists net chosen router) (c.line, new) packets in
-      let (row, at, h) = packets-of net places chosen router text lines cs file id in_ids in
-      let here = subst (λ (l : List (ℕ × NewNumber)). Contains l (c.line, new)) (packets-have net cs (λ (list : PacketList) (place : ListPlace). new_numbers place 0 10 (length (list_classes chosen id))) id row h at) has in
-      let n = number-at h.list 0 10 (length (list_classes chosen id)) (c.line, new) here in
-      record { list = h.list; listed = h.among; numbered = n.numbered; entry = n.entry; has = item_at_place h.list.entries n.place n.entry n.at; line = n.line })
-      (λ routes.
-      let (id, in_ids, has) = from_piece (route_list_numbers net own chosen) (edited_route_lists net chosen router) (c.line, new) routes in
-      let (row, at, h) = routes-of net places chosen router text lines cs file id in_ids in
-      let here = subst (λ (l : List (ℕ × NewNumber)). Contains l (c.line, new)) (routes-have net cs (λ (list : RouteList) (place : ListPlace). new_numbers place 4 5 (length (list_prefixes chosen id))) id row h at) has in
-      let n = number-at h.list 4 5 (length (list_prefixes chosen id)) (c.line, new) here in
-      record { list = h.list; listed = h.among; numbered = n.numbered; entry = n.entry; has = item_at_place h.list.entries n.place n.entry n.at; line = n.line })
-      (Contains-append_cases (flat_map (packet_list_numbers net own chosen) (edited_packet_lists net chosen router)) (flat_map (route_list_numbers net own chosen) (edited_route_lists net chosen router)) (c.line, new) there)
+      (Contains-append_cases (flat_map (packet_list_numbers net own chosen) (edited_packet_lists net chosen router))
+      (flat_map (route_list_numbers net own chosen) (edited_route_lists net chosen router)) (c.line, new) there)

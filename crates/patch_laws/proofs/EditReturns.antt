@@ -88,7 +88,8 @@ not-both lines cs c stand (inr of) e =
     true≢false (sym (is-such e.within e.kind) ∙ ap is_face_or_process (sym (sym of.opens ∙ ap (λ (d : FileCommand). opened_by d.command) same ∙ e.of.opens)))
 
 -- where lines are put after one, a block of an interface or a process ends
-module _ (net : Network) (places : List Places) (chosen : List Edit) (router : ℕ) (text : List ℕ) (lines : Lines) (cs : List FileCommand) (file : IsEditedFile net places chosen router text lines cs) where
+module _ (net : Network) (places : List Places) (chosen : List Edit) (router : ℕ) (text : List ℕ) (lines : Lines) (cs : List FileCommand)
+    (file : IsEditedFile net places chosen router text lines cs) where
   abbrev own : Places
   own = own_places cs
 
@@ -101,17 +102,20 @@ module _ (net : Network) (places : List Places) (chosen : List Edit) (router : �
 
   pub ends-block : (c : FileCommand) → Contains cs c → (line : List ℕ) → Contains (of_number c.line (lines_after net places own chosen router)) line → EndsBlock cs c
   ends-block c among line there =
-      let (item, in_commands, at_line) = from_map (λ (k : ℕ × Command). (k.0, line_of k.1)) (commands_after net places own chosen router) (c.line, line) (from-number c.line (lines_after net places own chosen router) line there) in
+      let (item, in_commands, at_line) = from_map (λ (k : ℕ × Command). (k.0, line_of k.1)) (commands_after net places own chosen router) (c.line, line)
+      (from-number c.line (lines_after net places own chosen router) line there) in
       let number : c.line ≡ item.0 = ap (λ (p : ℕ × List ℕ). p.0) (sym at_line) in
       ⊎_elim
       (λ process.
       let here : HasProcess cs file.process = process-here net places chosen router text lines cs file in
-      at-last c here.head here.last here.within (⊎_elim (λ ospf. inr (inl ospf.0)) (λ bgp. inr (inr bgp.0)) here.kind) among here.block (number ∙ process.0 ∙ last-line net places chosen router text lines cs file))
+      at-last c here.head here.last here.within (⊎_elim (λ ospf. inr (inl ospf.0)) (λ bgp. inr (inr bgp.0)) here.kind) among here.block
+      (number ∙ process.0 ∙ last-line net places chosen router text lines cs file))
       (λ a. at-last c a.block.head a.block.last kinds.Interface (inl refl) among a.block.block (number ∙ a.line))
       (after-item net places chosen router text lines cs file item in_commands)
 
 -- a line of such a block that ends with a carriage return is written without it
-module _ (text : List ℕ) (lines : Lines) (cs : List FileCommand) (c : FileCommand) (among : Contains cs c) (are : AreLinesOf text lines) (stand : AreCommandsIn (text_lines text) cs) (r : CommandRow text lines cs c) (e : EndsBlock cs c)
+module _ (text : List ℕ) (lines : Lines) (cs : List FileCommand) (c : FileCommand) (among : Contains cs c) (are : AreLinesOf text lines) (stand : AreCommandsIn (text_lines text) cs)
+    (r : CommandRow text lines cs c) (e : EndsBlock cs c)
     (line : List ℕ) (is : part text r.row.span ≡ line ++ 13 ∷ []) where
   texts : map (part text) r.row.words ≡ words (line ++ 13 ∷ [])
   texts = (are.rows r.place r.row r.at).texts ∙ ap words is

@@ -38,7 +38,8 @@ Rises (x ∷ y ∷ more) = (rises x y ≡ true) × Rises (y ∷ more)
 abbrev pub numbers_of : List (Given Command) → List (Option ℕ)
 numbers_of es = map (λ g. entry_number g.value) es
 
-rises-at : (es : List (Given Command)) (place : ℕ) (g h : Given Command) → Rises (numbers_of es) → slice_get es place ≡ Some g → slice_get es (suc place) ≡ Some h → rises (entry_number g.value) (entry_number h.value) ≡ true
+rises-at : (es : List (Given Command)) (place : ℕ) (g h : Given Command) → Rises (numbers_of es) → slice_get es place ≡ Some g → slice_get es (suc place) ≡ Some h →
+    rises (entry_number g.value) (entry_number h.value) ≡ true
 rises-at [] place g h all one two = absurd (none-some g one)
 rises-at (x ∷ []) zero g h all one two = absurd (none-some h two)
 rises-at (x ∷ []) (suc place) g h all one two = absurd (none-some g one)
@@ -52,7 +53,8 @@ no-fall es all line falls =
     true≢false (sym (rises-at es falls.place falls.earlier falls.later all falls.at_place (ap (slice_get es) step ∙ falls.at_next)) ∙ falls.falls)
 
 -- the entries of a new route list
-routes-rise : (name : List ℕ) (k : ℕ) (prefixes : List Prefix) (last : ℕ) → last ≡ 5 * (k + length prefixes) → Rises (numbers_of (entries (map (in_block 0) (map written_of (map (deny_prefix name) (enumerate_from k prefixes) ++ permit_all name last ∷ [])))))
+routes-rise : (name : List ℕ) (k : ℕ) (prefixes : List Prefix) (last : ℕ) → last ≡ 5 * (k + length prefixes) →
+    Rises (numbers_of (entries (map (in_block 0) (map written_of (map (deny_prefix name) (enumerate_from k prefixes) ++ permit_all name last ∷ [])))))
 routes-rise name k [] last is = tt
 routes-rise name k (p ∷ []) last is = (lt-ltb (5 * k) last (omega arith), tt)
 routes-rise name k (p ∷ q ∷ prefixes) last is = (lt-ltb (5 * k) (5 * (k + 1)) (omega arith), routes-rise name (k + 1) (q ∷ prefixes) last (is ∙ omega arith))
@@ -79,7 +81,8 @@ segs-rise chosen key (n ∷ ns) seg there = ⊎_elim
     (Contains-cases (flat_map chunk_commands (new_chunks chosen key n.0 n.1)) seg (map (λ (s : Seg). s.1) (segs chosen (key + 1) ns)) there)
 
 -- the groups of new lists
-added-rise : (chosen : List Edit) (key : ℕ) (ns : List (NewList × List ℕ)) → AreDifferent ns → (added : List FileCommand) → added ≡ flat_map chunk_commands (list_chunks chosen key ns) → (group : List FileCommand) →
+added-rise : (chosen : List Edit) (key : ℕ) (ns : List (NewList × List ℕ)) → AreDifferent ns → (added : List FileCommand) → added ≡ flat_map chunk_commands (list_chunks chosen key ns) →
+    (group : List FileCommand) →
     Contains (map (members added) (distinct (map part_of added))) group → Rises (numbers_of (entries group))
 added-rise chosen key ns apart added is group there =
     let ss = segs chosen key ns in
@@ -90,9 +93,11 @@ added-rise chosen key ns apart added is group there =
     segs-rise chosen key ns group (subst (λ (gs : List (List FileCommand)). Contains gs group) groups_are there)
 
 -- all numbers rise where those of the old groups do
-pub all-rise : (chosen : List Edit) (key : ℕ) (ns : List (NewList × List ℕ)) → AreDifferent ns → (grow : FileCommand → List FileCommand) (front back added all : List FileCommand) → added ≡ flat_map chunk_commands (list_chunks chosen key ns) →
+pub all-rise : (chosen : List Edit) (key : ℕ) (ns : List (NewList × List ℕ)) → AreDifferent ns → (grow : FileCommand → List FileCommand) (front back added all : List FileCommand) →
+    added ≡ flat_map chunk_commands (list_chunks chosen key ns) →
     HasGrownGroups grow front back added → all ≡ flat_map grow front ++ (added ++ flat_map grow back) →
-    ((q : Part) → Contains (distinct (map part_of (front ++ back))) q → (list : ListText) → Contains (list_of (flat_map grow (members (front ++ back) q))) list → Rises (numbers_of list.entries)) → NumbersRise (config_of all).lists
+    ((q : Part) → Contains (distinct (map part_of (front ++ back))) q → (list : ListText) → Contains (list_of (flat_map grow (members (front ++ back) q))) list →
+    Rises (numbers_of list.entries)) → NumbersRise (config_of all).lists
 all-rise chosen key ns apart grow front back added all is g whole old line falls =
     let (list, in_lists, f) = of_any (λ (l : ListText). FallsAt l.entries line) (config_of all).lists falls in
     let (group, in_groups, in_list) = from_piece list_of (groups all) list in_lists in
@@ -102,13 +107,16 @@ all-rise chosen key ns apart grow front back added all is g whole old line falls
     grown : Part → List FileCommand
     grown q = flat_map grow (members (front ++ back) q)
 
-    of-old : (list : ListText) (ps : List Part) → ((q : Part) → Contains ps q → Contains (distinct (map part_of (front ++ back))) q) → (group : List FileCommand) → Contains (list_of group) list → Contains (map grown ps) group → Rises (numbers_of list.entries)
-    of-old list ps among group in_list there = let (q, has, same) = from_map grown ps group there in old q (among q has) list (subst (λ (vs : List FileCommand). Contains (list_of vs) list) (sym same) in_list)
+    of-old : (list : ListText) (ps : List Part) → ((q : Part) → Contains ps q → Contains (distinct (map part_of (front ++ back))) q) → (group : List FileCommand) →
+        Contains (list_of group) list → Contains (map grown ps) group → Rises (numbers_of list.entries)
+    of-old list ps among group in_list there = let (q, has, same) =
+        from_map grown ps group there in old q (among q has) list (subst (λ (vs : List FileCommand). Contains (list_of vs) list) (sym same) in_list)
 
     of-new : (list : ListText) (group : List FileCommand) → Contains (list_of group) list → Contains (map (members added) (distinct (map part_of added))) group → Rises (numbers_of list.entries)
     of-new list group in_list there = subst (λ (es : List (Given Command)). Rises (numbers_of es)) (sym (list-entries-are group list in_list)) (added-rise chosen key ns apart added is group there)
 
-    rising : (list : ListText) (group : List FileCommand) → Contains (map grown g.before ++ (map (members added) (distinct (map part_of added)) ++ map grown g.after)) group → Contains (list_of group) list → Rises (numbers_of list.entries)
+    rising : (list : ListText) (group : List FileCommand) → Contains (map grown g.before ++ (map (members added) (distinct (map part_of added)) ++ map grown g.after)) group →
+        Contains (list_of group) list → Rises (numbers_of list.entries)
     rising list group there in_list = ⊎_elim
         (of-old list g.before (λ q has. subst (λ (l : List Part). Contains l q) (sym g.old) (Contains-append_left g.before g.after q has)) group in_list)
         (λ later. ⊎_elim

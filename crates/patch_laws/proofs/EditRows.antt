@@ -1,9 +1,9 @@
 -- The row of a command, and where it is read.
-use Rattle.std.proofs.Common.{◌≡◌, ◌≢◌, ℕ, zero, suc, ◌+◌, ◌==◌, ◌||◌, ◌⊎◌, inl, inr, Bool, true, false, Some, List, [], ◌∷◌, get_or, map, refl, sym, ap, subst, ◌∙◌, arith, ⊎_elim, Contains, MatchBool}
+use Rattle.std.proofs.Common.{◌≡◌, ◌≢◌, ℕ, zero, suc, ◌+◌, ◌==◌, ◌||◌, ◌⊎◌, inl, inr, Bool, true, false, Some, List, [], ◌∷◌, get_or, map, refl, sym, ap, subst, ◌∙◌, arith, Contains}
+use Rattle.std.proofs.Common.{MatchBool}
 use Rattle.std.specs.Prelude.{slice_get, option_map}
 use Rattle.std.proofs.lemmas.Bool.{eq-eqb, ne_eqb}
 use Rattle.std.proofs.lemmas.Option.{get_or_from_slice_get, none-some, same_Some, slice_get-map}
-use Rattle.arc_base.proofs.Items.{Contains-cases, Contains-none}
 use Rattle.ios_lines.specs.declared.line.Line.{Line}
 use Rattle.ios_lines.specs.declared.line.Lines.{Lines}
 use Rattle.ios_lines.specs.Kinds.{is_indented}
@@ -21,27 +21,14 @@ use Rattle.ios_config.specs.Inserted.{MarkOpens, Opened}
 use Rattle.ios_config.specs.LineLists.{marks_in, AreCommandsIn}
 use Rattle.ios_config.proofs.AppendedLines.{numbered-at}
 use Rattle.ios_config.proofs.InsertedLines.{head-opens}
-use Rattle.ios_config.proofs.LinesBefore.{Rising, rising-low, rising-from}
 use Rattle.line_edit_laws.specs.Sites.{IsOfBlock}
 use Rattle.line_edit_laws.proofs.Shifts.{RowOf, row-of, reads-once}
+use Rattle.patch_laws.proofs.FileParts.{one-line, rising}
 use Rattle.patch_laws.proofs.ReturnedLines.{row-indented}
 
 -- two commands of one line are one
-rising-one : (n : ℕ) (cs : List FileCommand) (c d : FileCommand) → Rising n cs → Contains cs c → Contains cs d → c.line ≡ d.line → c ≡ d
-rising-one n [] c d up one two line = absurd (Contains-none c one)
-rising-one n (x ∷ cs) c d up one two line = ⊎_elim
-    (λ first. ⊎_elim
-    (λ second. sym first ∙ second)
-    (λ later. let over = rising-low (x.line + 1) cs d up.1 later in let same : x.line ≡ c.line = ap (λ (y : FileCommand). y.line) first in absurd (omega arith))
-    (Contains-cases x d cs two))
-    (λ later. ⊎_elim
-    (λ second. let over = rising-low (x.line + 1) cs c up.1 later in let same : x.line ≡ d.line = ap (λ (y : FileCommand). y.line) second in absurd (omega arith))
-    (λ more. rising-one (x.line + 1) cs c d up.1 later more line)
-    (Contains-cases x d cs two))
-    (Contains-cases x c cs one)
-
 pub one-command : (lines : List (List ℕ)) (cs : List FileCommand) (c d : FileCommand) → AreCommandsIn lines cs → Contains cs c → Contains cs d → c.line ≡ d.line → c ≡ d
-one-command lines cs c d are one two line = rising-one 1 cs c d (rising-from (marks_in lines) 1 (marks_in lines) cs are.reads) one two line
+one-command lines cs c d are one two line = one-line 1 cs c d (rising lines cs are) one two line
 
 -- an item of a list that a map leaves at a place
 pub mapped-at : {X Y : Type 0} (f : X → Y) (xs : List X) (k : ℕ) (y : Y) → slice_get (map f xs) k ≡ Some y → (x : X) × (slice_get xs k ≡ Some x) × (f x ≡ y)
@@ -70,7 +57,8 @@ pub record CommandRow (text : List ℕ) (lines : Lines) (cs : List FileCommand) 
   pub own : row.head ≡ true → c.block ≡ c.line
   pub heads : row.head ≡ true → ReadBy false (map (part text) row.words) (rows kinds.Top) c.command
   pub indented : row.head ≡ false → c.block ≢ 0 → is_indented (part text row.span) ≡ true
-  pub read : (within : BlockKind) → row.head ≡ false → ((c.block ≡ 0) × (within ≡ kinds.Top)) ⊎ IsOfBlock cs c within → ReadBy (is_extended_block within) (map (part text) row.words) (rows within) c.command
+  pub read : (within : BlockKind) → row.head ≡ false → ((c.block ≡ 0) × (within ≡ kinds.Top)) ⊎ IsOfBlock cs c within →
+      ReadBy (is_extended_block within) (map (part text) row.words) (rows within) c.command
 
 pub command-row : (text : List ℕ) (lines : Lines) (cs : List FileCommand) (c : FileCommand) → AreLinesOf text lines → AreCommandsIn (text_lines text) cs → Contains cs c → CommandRow text lines cs c
 command-row text lines cs c are stand among =
@@ -87,14 +75,16 @@ command-row text lines cs c are stand among =
       heads = λ heads.
           let head : r.mark.head ≡ true = ap (λ (m : Mark). m.head) (sym mark) ∙ heads in
           let top : r.row.within ≡ kinds.Top =
-          subst (λ (b : Bool). MatchBool b (r.row.within ≡ kinds.Top) (MarkOpens (marks_in (text_lines text)) r.mark.block r.row.within)) (ap (λ (h : Bool). h || (r.mark.block == 0)) head) r.row.stands in
+          subst (λ (b : Bool). MatchBool b (r.row.within ≡ kinds.Top) (MarkOpens (marks_in (text_lines text)) r.mark.block r.row.within))
+          (ap (λ (h : Bool). h || (r.mark.block == 0)) head) r.row.stands in
           subst (λ (ws : List (List ℕ)). ReadBy false ws (rows kinds.Top) c.command) (ap (λ (m : Mark). m.words) (sym mark))
           (subst (λ (w : BlockKind). ReadBy (is_extended_block w) r.mark.words (rows w) c.command) top r.row.reads);
       indented = λ no_head some.
           let headless : r.mark.head ≡ false = ap (λ (m : Mark). m.head) (sym mark) ∙ no_head in
           let shown : get_or (text_lines text) r.place [] ≡ part text row.span =
           ap (λ (ls : List (List ℕ)). get_or ls r.place []) (sym are.texts) ∙
-          get_or_from_slice_get (map (λ (l : Line). part text l.span) lines.rows) r.place (part text row.span) [] (slice_get-map (λ (l : Line). part text l.span) lines.rows r.place ∙ ap (option_map (λ (l : Line). part text l.span)) at) in
+          get_or_from_slice_get (map (λ (l : Line). part text l.span) lines.rows) r.place (part text row.span) []
+          (slice_get-map (λ (l : Line). part text l.span) lines.rows r.place ∙ ap (option_map (λ (l : Line). part text l.span)) at) in
           subst (λ (l : List ℕ). is_indented l ≡ true) shown (row-indented (text_lines text) cs c r headless (λ none. some (r.block ∙ none)));
       read = λ within no_head where_it.
           let headless : r.mark.head ≡ false = ap (λ (m : Mark). m.head) (sym mark) ∙ no_head in
@@ -109,6 +99,7 @@ command-row text lines cs c are stand among =
         subst (λ (b : Bool). MatchBool b (r.row.within ≡ kinds.Top) (MarkOpens (marks_in (text_lines text)) r.mark.block r.row.within)) at_top r.row.stands ∙ sym top
     within-is r no_head within (inr of) =
         let inside : (r.mark.head || (r.mark.block == 0)) ≡ false = ap (λ (h : Bool). h || (r.mark.block == 0)) no_head ∙ ne_eqb r.mark.block 0 (λ none. of.some (r.block ∙ none)) in
-        let one : MarkOpens (marks_in (text_lines text)) r.mark.block r.row.within = subst (λ (b : Bool). MatchBool b (r.row.within ≡ kinds.Top) (MarkOpens (marks_in (text_lines text)) r.mark.block r.row.within)) inside r.row.stands in
+        let one : MarkOpens (marks_in (text_lines text)) r.mark.block r.row.within =
+        subst (λ (b : Bool). MatchBool b (r.row.within ≡ kinds.Top) (MarkOpens (marks_in (text_lines text)) r.mark.block r.row.within)) inside r.row.stands in
         let opened : Opened cs r.mark.block within = record { head = of.head; among = of.among; line = of.number ∙ r.block; opens = of.opens; known = of.known } in
         opens-once (marks_in (text_lines text)) r.mark.block r.row.within within one (head-opens (marks_in (text_lines text)) cs r.mark.block within stand.reads opened)

@@ -1,5 +1,6 @@
 -- The lines of lists that stand as lines are top lines, and have the numbers that the language gives them.
-use Rattle.std.proofs.Common.{◌≡◌, ℕ, ◌+◌, ◌^◌, ◌<◌, ◌≤◌, ◌==◌, ◌||◌, ◌&&◌, ◌⊎◌, inl, inr, Bool, true, false, if◌then◌else◌, Option, Some, None, List, [], ◌∷◌, map, take, get_or, refl, sym, ap, subst, ◌∙◌, arith, ⊎_elim, Contains, MatchBool}
+use Rattle.std.proofs.Common.{◌≡◌, ℕ, ◌+◌, ◌^◌, ◌<◌, ◌≤◌, ◌==◌, ◌||◌, ◌&&◌, ◌⊎◌, inl, inr, Bool, true, false, if◌then◌else◌, Option, Some, None, List, [], ◌∷◌, map, take, get_or, refl, sym}
+use Rattle.std.proofs.Common.{ap, subst, ◌∙◌, arith, ⊎_elim, Contains, MatchBool}
 use Rattle.std.specs.Prelude.{option_map}
 use Rattle.std.specs.Option.{option_map_or}
 use Rattle.std.proofs.lemmas.Bool.{cases_Bool, false≢true, eqb-true, le-leb}
@@ -88,13 +89,15 @@ module _ (lines : List (List ℕ)) (cs : List FileCommand) (stand : AreCommandsI
       by h heads true none = r.block ∙ eqb-true r.mark.block 0 none
       by false heads false some =
           let inside : (r.mark.head || (r.mark.block == 0)) ≡ false = ap (λ (t : Bool). t || (r.mark.block == 0)) heads ∙ some in
-          let opens : MarkOpens (marks_in lines) r.mark.block r.row.within = subst (λ (t : Bool). MatchBool t (r.row.within ≡ kinds.Top) (MarkOpens (marks_in lines) r.mark.block r.row.within)) inside r.row.stands in
+          let opens : MarkOpens (marks_in lines) r.mark.block r.row.within =
+          subst (λ (t : Bool). MatchBool t (r.row.within ≡ kinds.Top) (MarkOpens (marks_in lines) r.mark.block r.row.within)) inside r.row.stands in
           absurd (never-top opens.command (sym opens.opens ∙ (list-lines-top r.row.within r.mark.words c.command r.row.reads list).0))
       by true heads false some =
           absurd (false≢true (sym (list-lines-top r.row.within r.mark.words c.command r.row.reads list).1 ∙ head-kind heads))
 
 -- the line of a list is a top line
-pub lists-at-top : (lines : List (List ℕ)) (cs : List FileCommand) → AreCommandsIn lines cs → (c : FileCommand) → Contains cs c → (name : List ℕ) → (groups.part_of c ≡ groups.Lines name) ⊎ (groups.part_of c ≡ groups.PrefixLines name) → c.block ≡ 0
+pub lists-at-top : (lines : List (List ℕ)) (cs : List FileCommand) → AreCommandsIn lines cs → (c : FileCommand) → Contains cs c → (name : List ℕ) →
+    (groups.part_of c ≡ groups.Lines name) ⊎ (groups.part_of c ≡ groups.PrefixLines name) → c.block ≡ 0
 lists-at-top lines cs stand c among name (inl part) = let (entry, is) = line-entry c.block name c.command part in list-top lines cs stand c among (ap is_list_line is)
 lists-at-top lines cs stand c among name (inr part) = let (order, entry, is) = prefix-entry c.block name c.command part in list-top lines cs stand c among (ap is_list_line is)
 
@@ -138,12 +141,14 @@ extended-by n one two = λ i. if one i then Some false else (if two i then Some 
 extended-number : (name : List ℕ) → IsListNumber name → texts.kind_of_number name ≡ Extended → list_kind (number_of name) ≡ Some true
 extended-number name is kind =
     let number : number_of name ≡ Some is.number = ap number_of is.written ∙ number_of-decimal is.number (few-digits is.number is.ranged) in
-    let other : is_standard is.number ≡ false = kind-false (is_standard is.number) (ap (λ (o : Option ℕ). if option_map_or texts.is_standard o false then Standard else Extended) (sym number) ∙ kind) in
+    let other : is_standard is.number ≡ false = kind-false (is_standard is.number)
+    (ap (λ (o : Option ℕ). if option_map_or texts.is_standard o false then Standard else Extended) (sym number) ∙ kind) in
     ap list_kind number ∙ extended-by is.number other (⊎_elim (λ standard. absurd (false≢true (sym other ∙ standard-true is.number standard))) (extended-true is.number) is.ranged)
 
 module _ (text : List ℕ) (lines : Lines) (cs : List FileCommand) (are : AreLinesOf text lines) (stand : AreCommandsIn (text_lines text) cs) where
   first-row : (list : ListText) (there : Contains (config_of cs).lists list) → (form : is_list_line (list-group cs list there).first.command ≡ true) →
-      ReadBy false (map (part text) (command-row text lines cs (list-group cs list there).first are stand (first-of (text_lines text) cs stand list there).0).row.words) (rows kinds.Top) (list-group cs list there).first.command
+      ReadBy false (map (part text) (command-row text lines cs (list-group cs list there).first are stand (first-of (text_lines text) cs stand list there).0).row.words) (rows kinds.Top)
+      (list-group cs list there).first.command
   first-row list there listed =
       let among = (first-of (text_lines text) cs stand list there).0 in
       let row = command-row text lines cs (list-group cs list there).first are stand among in
@@ -167,5 +172,6 @@ module _ (text : List ℕ) (lines : Lines) (cs : List FileCommand) (are : AreLin
         let formed : IsInForm h.first.command = in_form text row.row kinds.Top h.first.command (first-row list there (ap is_list_line is)) in
         let number : IsListNumber list.name = subst IsInForm is formed in
         let begun : list_begun (commands.ListLine list.name entry) ≡ Some (list.name, list.kind, list.form) = ap list_begun (sym is) ∙ h.begun in
-        extended-number list.name number (ap (λ (x : List ℕ × ListKind × ListForm). x.1) (same_Some (list.name, texts.kind_of_number list.name, forms.Lines) (list.name, list.kind, list.form) begun) ∙ kind);
+        extended-number list.name number
+        (ap (λ (x : List ℕ × ListKind × ListForm). x.1) (same_Some (list.name, texts.kind_of_number list.name, forms.Lines) (list.name, list.kind, list.form) begun) ∙ kind);
   }

@@ -1,5 +1,5 @@
 -- A list without numbers has none with the entries of the edits.
-use Rattle.std.proofs.Common.{◌≡◌, ℕ, zero, suc, ◌+◌, ◌==◌, Bool, true, false, if◌then◌else◌, Option, Some, None, List, [], ◌∷◌, map, refl, sym, ap, subst, ◌∙◌, ⊎_elim, Contains, arith}
+use Rattle.std.proofs.Common.{◌≡◌, ℕ, ◌==◌, Bool, true, false, if◌then◌else◌, Option, Some, None, List, [], ◌∷◌, map, refl, sym, ap, subst, ◌∙◌, ⊎_elim, Contains}
 use Rattle.std.specs.Prelude.{slice_get, is_some}
 use Rattle.std.specs.List.{flat_map}
 use Rattle.std.proofs.lemmas.Bool.{false≢true, true≢false}
@@ -16,7 +16,7 @@ use Rattle.ios_config.specs.declared.commands.FileCommand.{FileCommand}
 use Rattle.ios_config.specs.declared.settings.Given.{Given}
 use Rattle.ios_config.specs.declared.settings.ListText.{ListText}
 use Rattle.ios_config.specs.Groups.{Part, is_same, members, part_of}
-use Rattle.ios_config.specs.Rising.{FallsAt, rises}
+use Rattle.ios_config.specs.Rising.{FallsAt}
 use Rattle.ios_config.specs.Texts.{config_of, entries, entry_number, given, is_entry, is_numbered}
 use Rattle.ios_config.proofs.PartLists.{is_same-Decides}
 use Rattle.net_build.specs.declared.built.Places.{Places}
@@ -30,53 +30,24 @@ use Rattle.line_edit_laws.specs.Sites.{Single, Written, chunk_commands, in_block
 use Rattle.patch_laws.specs.EditFiles.{IsEditedFile}
 use Rattle.patch_laws.specs.EditSiteLaws.{own_places}
 use Rattle.patch_laws.specs.EditSites.{ends_at, entries_at, grow, inner_entries, new_key, put, singles, with_number}
+use Rattle.patch_laws.proofs.EditBusy.{number-item}
+use Rattle.patch_laws.proofs.EditCounted.{entry-with}
 use Rattle.patch_laws.proofs.EditEntries.{table-entry}
 use Rattle.patch_laws.proofs.EditLists.{ListGroup, entry-command, first-entry, from-number, list-group}
-use Rattle.patch_laws.proofs.EditNumbers.{rise-in}
-use Rattle.patch_laws.proofs.EditRenumber.{numbered-list}
+use Rattle.patch_laws.proofs.EditNumbers.{numbered-alike, rise-in}
 use Rattle.patch_laws.proofs.EditRows.{one-command}
-use Rattle.patch_laws.proofs.EditSequences.{sequences}
 
 -- in a list whose numbers rise, no entry has one where the first has none
 none-numbered : (es : List (Given Command)) → ((line : ℕ) → ¬ FallsAt es line) → is_numbered es ≡ false → (k : ℕ) (g : Given Command) → slice_get es k ≡ Some g → entry_number g.value ≡ None
-none-numbered [] rise is k g at = absurd (none-some g at)
-none-numbered (e ∷ es) rise is zero g at = no-number (entry_number g.value) (subst (λ (x : Given Command). is_some (entry_number x.value) ≡ false) (same_Some e g at) is)
+none-numbered es rise is k g at = no-number (entry_number g.value) (numbered-alike es rise k g at ∙ is)
   where
     no-number : (o : Option ℕ) → is_some o ≡ false → o ≡ None
     no-number None none = refl
     no-number (Some n) some = absurd (true≢false some)
-none-numbered (e ∷ es) rise is (suc k) g at = next (before (e ∷ es) k g at) (λ h here. none-numbered (e ∷ es) rise is k h here)
-  where
-    before : (xs : List (Given Command)) (k : ℕ) (g : Given Command) → slice_get xs (suc k) ≡ Some g → (h : Given Command) × (slice_get xs k ≡ Some h)
-    before [] k g at = absurd (none-some g at)
-    before (x ∷ xs) zero g at = (x, refl)
-    before (x ∷ xs) (suc k) g at = before xs k g at
-
-    by : (h : Given Command) → slice_get (e ∷ es) k ≡ Some h → entry_number h.value ≡ None → (o : Option ℕ) → entry_number g.value ≡ o → o ≡ None
-    by h here none None said = refl
-    by h here none (Some n) said =
-        let step : k + 1 ≡ suc k = omega arith in
-        absurd (rise g.line (record {
-          place = k;
-          earlier = h;
-          at_place = here;
-          later = g;
-          at_next = ap (slice_get (e ∷ es)) step ∙ at;
-          falls = (λ i. rises (none i) (said i));
-          is_line = refl;
-        }))
-
-    next : (h : Given Command) × (slice_get (e ∷ es) k ≡ Some h) → ((h : Given Command) → slice_get (e ∷ es) k ≡ Some h → entry_number h.value ≡ None) → entry_number g.value ≡ None
-    next (h, here) earlier = by h here (earlier h here) (entry_number g.value) refl
-
-entry-with : (k : Command) (new : List NewNumber) → is_entry (with_number k new) ≡ is_entry k
-entry-with k [] = refl
-entry-with (commands.Entry order entry) (n ∷ more) = refl
-entry-with (commands.PrefixLine name order entry) (n ∷ more) = refl
-entry-with _ (n ∷ more) = refl
 
 module _ (net : Network) (places : List Places) (chosen : List Edit) (router : ℕ) (text : List ℕ) (lines : Lines) (cs : List FileCommand) (f : IsEditedFile net places chosen router text lines cs)
-    (list : ListText) (listed : Contains (config_of cs).lists list) (group : ListGroup cs list) (none : list.numbered ≡ false) (ends : (c : FileCommand) → Contains (members cs group.part) c → ends_at net places (own_places cs) chosen router c ≡ []) where
+    (list : ListText) (listed : Contains (config_of cs).lists list) (group : ListGroup cs list) (none : list.numbered ≡ false)
+    (ends : (c : FileCommand) → Contains (members cs group.part) c → ends_at net places (own_places cs) chosen router c ≡ []) where
   abbrev own : Places
   own = own_places cs
 
@@ -90,7 +61,8 @@ module _ (net : Network) (places : List Places) (chosen : List Edit) (router : �
   of-part c there = let (among, same) = from_filter (λ (d : FileCommand). is_same q (part_of d)) cs c there in (among, (is_same-Decides q (part_of c)).0 same)
 
   -- another list with an entry in this part is this one
-  same-list : (c : FileCommand) → Contains cs c → q ≡ part_of c → (other : ListText) (there : Contains (config_of cs).lists other) (e : Given Command) → Contains other.entries e → c.line ≡ e.line → other.numbered ≡ false
+  same-list : (c : FileCommand) → Contains cs c → q ≡ part_of c → (other : ListText) (there : Contains (config_of cs).lists other) (e : Given Command) → Contains other.entries e →
+      c.line ≡ e.line → other.numbered ≡ false
   same-list c among part other there e has line =
       let h = list-group cs other there in
       let d = entry-command cs other h e has in
@@ -106,14 +78,18 @@ module _ (net : Network) (places : List Places) (chosen : List Edit) (router : �
       let has : Contains t.list.entries e.first = subst (λ (es : List (Given Command)). Contains es e.first) (sym e.is) (Contains-head e.first e.more) in
       subst (λ (x : Written). entry_number x.command ≡ None) made (t.order (same-list c among part t.list t.among e.first has (t.number ∙ e.line)))
 
-  own-none : (c : FileCommand) → Contains (members cs q) c → is_entry c.command ≡ true → (ns : List NewNumber) → of_number c.line (numbers_at net own chosen router) ≡ ns → entry_number (with_number c.command ns) ≡ None
+  own-none : (c : FileCommand) → Contains (members cs q) c → is_entry c.command ≡ true → (ns : List NewNumber) → of_number c.line (numbers_at net own chosen router) ≡ ns →
+      entry_number (with_number c.command ns) ≡ None
   own-none c there entry (new ∷ more) is =
       let m = of-part c there in
-      let n = numbered-list sequences net places chosen router text lines cs f c m.0 new more is in
-      absurd (false≢true (sym (same-list c m.0 m.1 n.list n.listed n.entry n.has n.line) ∙ n.numbered))
+      let there : Contains (numbers_at net own chosen router) (c.line, new) =
+      from-number c.line (numbers_at net own chosen router) new (subst (λ (l : List NewNumber). Contains l new) (sym is) (Contains-head new more)) in
+      let n = number-item net places chosen router text lines cs f (c.line, new) there in
+      absurd (false≢true (sym (same-list c m.0 m.1 n.list n.among n.entry n.has n.line) ∙ n.numbered))
   own-none c there entry [] is =
       let h = group in
-      let has : Contains (entries (members cs q)) (given c) = picks (λ (d : FileCommand). if is_entry d.command then Some (given d) else None) (members cs q) c (given c) there (ap (λ (b : Bool). if b then Some (given c) else None) entry) in
+      let has : Contains (entries (members cs q)) (given c) = picks (λ (d : FileCommand). if is_entry d.command then Some (given d) else None) (members cs q) c (given c) there
+      (ap (λ (b : Bool). if b then Some (given c) else None) entry) in
       let in_list : Contains list.entries (given c) = subst (λ (es : List (Given Command)). Contains es (given c)) (ap entries h.is ∙ sym h.entries_are) has in
       let (k, at) = place_of_item list.entries (given c) in_list in
       none-numbered list.entries (rise-in (config_of cs).lists list f.rising listed) (ap is_numbered h.entries_are ∙ sym h.numbered_is ∙ none) k (given c) at
@@ -125,14 +101,17 @@ module _ (net : Network) (places : List Places) (chosen : List Edit) (router : �
       let (w, in_singles, is) = from_map Single (singles net own chosen router c) t in_chunks in
       single w (by-single (c.block == 0) w in_singles) (subst (λ x. Contains (chunk_commands x) v) (sym is) in_t))
       (λ owns. ⊎_elim
-      (λ inner. let (w, has, is) = from_map (in_block c.block) (inner_entries net own chosen router c) v inner in ap (λ (x : FileCommand). entry_number x.command) (sym is) ∙ new-none c m.0 m.1 w (by-inner (c.block == 0) w has))
+      (λ inner. let (w, has, is) = from_map (in_block c.block) (inner_entries net own chosen router c) v inner in ap (λ (x : FileCommand). entry_number x.command) (sym is)
+      ∙ new-none c m.0 m.1 w (by-inner (c.block == 0) w has))
       (λ more. ⊎_elim
       (λ itself.
       ap (λ (x : FileCommand). entry_number x.command) (sym itself) ∙
-      own-none c there (sym (entry-with c.command (of_number c.line (numbers_at net own chosen router))) ∙ ap (λ (x : FileCommand). is_entry x.command) itself ∙ entry) (of_number c.line (numbers_at net own chosen router)) refl)
+      own-none c there (sym (entry-with c.command (of_number c.line (numbers_at net own chosen router))) ∙ ap (λ (x : FileCommand). is_entry x.command) itself ∙ entry)
+      (of_number c.line (numbers_at net own chosen router)) refl)
       (λ later. absurd (Contains-none v (subst (λ (ws : List Written). Contains (map (in_block c.block) ws) v) (ends c there) later)))
       (Contains-cases (says_other c (put net places own chosen router text lines (new_key lines) c).command) v (map (in_block c.block) (ends_at net places own chosen router c)) more))
-      (Contains-append_cases (map (in_block c.block) (inner_entries net own chosen router c)) (says_other c (put net places own chosen router text lines (new_key lines) c).command ∷ map (in_block c.block) (ends_at net places own chosen router c)) v owns))
+      (Contains-append_cases (map (in_block c.block) (inner_entries net own chosen router c))
+      (says_other c (put net places own chosen router text lines (new_key lines) c).command ∷ map (in_block c.block) (ends_at net places own chosen router c)) v owns))
       (Contains-append_cases (flat_map chunk_commands (map Single (singles net own chosen router c))) (own_commands c (put net places own chosen router text lines (new_key lines) c)) v in_grown)
     where
       m : Contains cs c × (q ≡ part_of c)

@@ -80,15 +80,18 @@ module _ (net : Network) (writable : IsWritable net) (fits : FitsProtocol net.pr
 
   turning-line : (place : ℕ) (row : FaceRow) → slice_get net.faces place ≡ Some row → (p : Protocol) (o : Option SessionRow) → session_at net (record { 0 = place }) ≡ o → (command : Command) →
       turning_command p row o ≡ Some command → IsProcessLine p block command
-  turning-line place row at Ospf o is command e = subst (IsProcessLine Ospf block) (same_Some (commands.Passive (not row.passive) (Some row.name)) command e) (passive-line place row at (not row.passive))
+  turning-line place row at Ospf o is command e = subst (IsProcessLine Ospf block) (same_Some (commands.Passive (not row.passive) (Some row.name)) command e)
+      (passive-line place row at (not row.passive))
   turning-line place row at Bgp None is command e = absurd (none-some command e)
   turning-line place row at Bgp (Some s) is command e =
-      subst (IsProcessLine Bgp block) (same_Some (commands.NeighborDown s.peer (not s.down)) command e) (down-line s (session_in (λ (t : SessionRow). t.face.0 == place) net.sessions s is) (not s.down))
+      subst (IsProcessLine Bgp block) (same_Some (commands.NeighborDown s.peer (not s.down)) command e)
+      (down-line s (session_in (λ (t : SessionRow). t.face.0 == place) net.sessions s is) (not s.down))
 
   session-line : (place : ℕ) (command : Command) → session_command net place ≡ Some command → IsLine command
   session-line place command = by (slice_get net.faces place) refl
     where
-      by : (o : Option FaceRow) → slice_get net.faces place ≡ o → option_and_then (λ (row : FaceRow). turning_command net.protocol row (session_at net (record { 0 = place }))) o ≡ Some command → IsLine command
+      by : (o : Option FaceRow) → slice_get net.faces place ≡ o → option_and_then
+          (λ (row : FaceRow). turning_command net.protocol row (session_at net (record { 0 = place }))) o ≡ Some command → IsLine command
       by None at e = absurd (none-some command e)
       by (Some row) at e = turning-line place row at net.protocol (session_at net (record { 0 = place })) refl command e
 
@@ -111,20 +114,24 @@ module _ (net : Network) (writable : IsWritable net) (fits : FitsProtocol net.pr
           let small : s.peer < 2 ^ 32 = writable.peers s (session_in (λ (t : SessionRow). t.face.0 == face.0) net.sessions s at) in
           let line = read-plain kinds.Bgp (commands.NeighborList s.peer name) tt is small in
           let inner = inner_is kinds.Bgp block (commands.NeighborList s.peer name) line line.kind refl (record { stands = refl; excludes = refl; unnamed = refl }) in
-          let whole : IsProcessLine Bgp block (commands.NeighborList s.peer name) = record { line = inner.0; quiet = inner.1; fit = plain-fit kinds.Bgp (commands.NeighborList s.peer name) line (omega arith) } in
+          let whole : IsProcessLine Bgp block (commands.NeighborList s.peer name) =
+          record { line = inner.0; quiet = inner.1; fit = plain-fit kinds.Bgp (commands.NeighborList s.peer name) line (omega arith) } in
           subst (λ (q : Protocol). IsProcessLine q block command) (sym (runs-bgp face s at)) (subst (IsProcessLine Bgp block) (same_Some (commands.NeighborList s.peer name) command e) whole)
 
 pub process-lines-read : ProcessLinesAreRead
 process-lines-read net chosen router block writable fits named =
     AllByRecursion-append (IsProcessLine net.protocol block) (session_commands net chosen router) (filter_commands net chosen router)
     (picked-all (IsProcessLine net.protocol block) (session_command net) (turned_faces net chosen router) (λ place command there e. session-line net writable fits block place command e))
-    (picked-all (IsProcessLine net.protocol block) (λ (l : NewList × List ℕ). filter_command net l.0 l.1) (named_lists net chosen router) (λ l command there e. filter-line net writable fits block l.0 l.1 command (named l there) e))
+    (picked-all (IsProcessLine net.protocol block) (λ (l : NewList × List ℕ). filter_command net l.0 l.1) (named_lists net chosen router)
+    (λ l command there e. filter-line net writable fits block l.0 l.1 command (named l there) e))
 
 -- a line that binds a new packet list
 pub group-lines-fit : GroupLinesAreFit
 group-lines-fit name block is =
-    let line = read-plain kinds.Interface (commands.Group name true) tt is tt in
-    (inner_is kinds.Interface block (commands.Group name true) line line.kind refl (record { stands = refl; excludes = refl; unnamed = refl }), plain-fit kinds.Interface (commands.Group name true) line (omega arith))
+    let line = read-plain kinds.Interface (commands.Group name true) tt is tt in (
+      inner_is kinds.Interface block (commands.Group name true) line line.kind refl (record { stands = refl; excludes = refl; unnamed = refl }),
+      plain-fit kinds.Interface (commands.Group name true) line (omega arith),
+    )
 
 -- the last line of bare commands
 last-zero : (cs : List FileCommand) (k : ℕ) → option_map_or (λ (c : FileCommand). c.line) (slice_get (map bare cs) k) 0 ≡ 0
@@ -146,16 +153,19 @@ givens-of (c ∷ cs) = ap (λ l. said c ∷ l) (givens-of cs)
 grown-process : (kind : ProcessKind) (number : ℕ) (head : FileCommand) (rest : List FileCommand) (cs : List Command) →
     process_text kind number (bare head) (map bare rest ++ map bare_of cs) ≡ record (process_text kind number (bare head) (map bare rest)) { lines = map given (map bare rest) ++ map said cs }
 grown-process kind number head rest cs =
-    let whole : bare head ∷ (map bare rest ++ map bare_of cs) ≡ map bare (head ∷ (rest ++ map bare_of cs)) = ap (λ l. bare head ∷ l) (ap (λ l. map bare rest ++ l) (sym (bares-of cs)) ∙ sym (map-append bare rest (map bare_of cs))) in
+    let whole : bare head ∷ (map bare rest ++ map bare_of cs) ≡ map bare (head ∷ (rest ++ map bare_of cs)) =
+    ap (λ l. bare head ∷ l) (ap (λ l. map bare rest ++ l) (sym (bares-of cs)) ∙ sym (map-append bare rest (map bare_of cs))) in
     let last : last_line (bare head ∷ (map bare rest ++ map bare_of cs)) ≡ last_line (map bare (head ∷ rest)) =
     ap last_line whole ∙ last-zero (head ∷ (rest ++ map bare_of cs)) (length (map bare (head ∷ (rest ++ map bare_of cs))) - 1) ∙ sym (last-zero (head ∷ rest) (length (map bare (head ∷ rest)) - 1)) in
-    let lines : map given (map bare rest ++ map bare_of cs) ≡ map given (map bare rest) ++ map said cs = map-append given (map bare rest) (map bare_of cs) ∙ ap (λ l. map given (map bare rest) ++ l) (givens-of cs) in
+    let lines : map given (map bare rest ++ map bare_of cs) ≡ map given (map bare rest) ++ map said cs =
+    map-append given (map bare rest) (map bare_of cs) ∙ ap (λ l. map given (map bare rest) ++ l) (givens-of cs) in
     λ i. record { kind = kind; number = number; head = 0; last = last i; lines = lines i }
 
 pub processes-grow : ProcessesGrow
 processes-grow net chosen router head rest = by head.command
   where
-    by : (command : Command) → process_by command (bare head) (map bare rest ++ map bare_of (process_commands net chosen router)) ≡ map (process_with net chosen router) (process_by command (bare head) (map bare rest))
+    by : (command : Command) → process_by command (bare head) (map bare rest ++ map bare_of (process_commands net chosen router)) ≡ map (process_with net chosen router)
+        (process_by command (bare head) (map bare rest))
     by (commands.RouterOspf number) = ap (λ (p : ProcessText). p ∷ []) (grown-process _ number head rest (process_commands net chosen router))
     by (commands.RouterBgp number) = ap (λ (p : ProcessText). p ∷ []) (grown-process _ number head rest (process_commands net chosen router))
     by _ = refl
@@ -184,5 +194,7 @@ faces-grow net chosen router head rest face name is bound =
           list_out = f.list_out;
         }
 
-    by : (command : Command) → command ≡ commands.Interface face → map (face_bound name 0) (faces.face_by command 0 (map bare (head ∷ rest))) ≡ map (face_with net chosen router) (faces.face_by command 0 (map bare (head ∷ rest)))
-    by command e = subst (λ (c : Command). map (face_bound name 0) (faces.face_by c 0 (map bare (head ∷ rest))) ≡ map (face_with net chosen router) (faces.face_by c 0 (map bare (head ∷ rest)))) (sym e) (ap (λ (f : FaceText). f ∷ []) same)
+    by : (command : Command) → command ≡ commands.Interface face →
+        map (face_bound name 0) (faces.face_by command 0 (map bare (head ∷ rest))) ≡ map (face_with net chosen router) (faces.face_by command 0 (map bare (head ∷ rest)))
+    by command e = subst (λ (c : Command). map (face_bound name 0) (faces.face_by c 0 (map bare (head ∷ rest))) ≡ map (face_with net chosen router)
+        (faces.face_by c 0 (map bare (head ∷ rest)))) (sym e) (ap (λ (f : FaceText). f ∷ []) same)

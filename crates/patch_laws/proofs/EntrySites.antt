@@ -52,8 +52,10 @@ pub prefix-entries : PrefixEntriesAreRead
 prefix-entries place list entry is other fits =
     let permit = (opposite_route_entry list.entries entry.1).permit in
     let order = order_at place 5 entry.0 in
-    let line = route-line list.name order permit entry.1 is other fits in
-    (plain-single list.name (commands.PrefixLine list.name order (route_text permit entry.1)) line line.kind (inr refl), plain-fit kinds.Top (commands.PrefixLine list.name order (route_text permit entry.1)) line (omega arith))
+    let line = route-line list.name order permit entry.1 is other fits in (
+      plain-single list.name (commands.PrefixLine list.name order (route_text permit entry.1)) line line.kind (inr refl),
+      plain-fit kinds.Top (commands.PrefixLine list.name order (route_text permit entry.1)) line (omega arith),
+    )
 
 -- the words of a row of which the first is a number
 first-other : (ws : List (List ℕ)) (w : List ℕ) (other : List ℕ) → slice_get ws 0 ≡ Some w → (rest : List (List ℕ)) × (ws ≡ w ∷ rest) × (changes.replaced 0 other ws ≡ other ∷ rest)
@@ -70,10 +72,12 @@ pub entries-renumbered : EntriesAreRenumbered
 entries-renumbered text lines cs c row n m entry span site h of no_head says at small order line_is says_new =
     let block : row.block ≢ 0 = λ none. of.some (h.block ∙ none) in
     let plain : is_plain (decimal m) ≡ true = decimal-plain m small in
-    let r : IsRewritten text h.place row 0 span (decimal m) = a-word-replaced text lines h.place row 0 span (decimal m) h.are h.cut h.at h.says at plain (inr (refl, h.head, block, no-mark (decimal m) (decimal-begins m small))) in
+    let r : IsRewritten text h.place row 0 span (decimal m) = a-word-replaced text lines h.place row 0 span (decimal m) h.are h.cut h.at h.says at plain
+    (inr (refl, h.head, block, no-mark (decimal m) (decimal-begins m small))) in
     let shown : get_or (text_lines text) h.place [] ≡ part text row.span =
     ap (λ (ls : List (List ℕ)). get_or ls h.place []) (sym h.are.texts) ∙
-    get_or_from_slice_get (map (λ (l : Line). part text l.span) lines.rows) h.place (part text row.span) [] (slice_get-map (λ (l : Line). part text l.span) lines.rows h.place ∙ ap (option_map (λ (l : Line). part text l.span)) h.at) in
+    get_or_from_slice_get (map (λ (l : Line). part text l.span) lines.rows) h.place (part text row.span) []
+    (slice_get-map (λ (l : Line). part text l.span) lines.rows h.place ∙ ap (option_map (λ (l : Line). part text l.span)) h.at) in
     let alike : kind (part text row.span) ≡ kind (rewritten text row span (decimal m)) = ap kind (sym shown) ∙ sym (kind-there (text_lines text) h.place r.may.within r.may.outside) ∙ r.may.alike in
     let old : map (part text) row.words ≡ words (part text row.span) = (h.are.rows h.place row h.at).texts in
     let first : slice_get (map (part text) row.words) 0 ≡ Some (part text span) = slice_get-map (part text) row.words 0 ∙ ap (option_map (part text)) at in
@@ -89,7 +93,8 @@ entries-renumbered text lines cs c row n m entry span site h of no_head says at 
         stands = inr of;
         reads = λ reads.
             let before : ReadBy true (part text span ∷ rest) (rows kinds.Extended) (commands.Entry (Some n) entry) =
-            subst (λ (k : Command). ReadBy true (part text span ∷ rest) (rows kinds.Extended) k) says (subst (λ (ws : List (List ℕ)). ReadBy true ws (rows kinds.Extended) c.command) (sym old ∙ is) reads) in
+            subst (λ (k : Command). ReadBy true (part text span ∷ rest) (rows kinds.Extended) k) says
+            (subst (λ (ws : List (List ℕ)). ReadBy true ws (rows kinds.Extended) c.command) (sym old ∙ is) reads) in
             let after : ReadBy true (decimal m ∷ rest) (rows kinds.Extended) (commands.Entry (Some m) entry) = renumbering.entries-renumbered (part text span) rest n m entry before order in
             subst (λ (k : Command). ReadBy true (words site.line) (rows kinds.Extended) k) (sym says_new)
             (subst (λ (ws : List (List ℕ)). ReadBy true ws (rows kinds.Extended) (commands.Entry (Some m) entry)) (sym (ap words line_is ∙ r.words ∙ now)) after);

@@ -40,7 +40,8 @@ face-is _ h t face there = absurd (Contains-none face there)
 known-face : kinds.Interface ≢ kinds.Inert
 known-face e = absurd cc
 
-block-of : (lines : List (List ℕ)) (cs : List FileCommand) (face : FaceText) (part : Part) (group : List FileCommand) → AreCommandsIn lines cs → members cs part ≡ group → Contains (face_of group) face → HasFaceBlock cs face
+block-of : (lines : List (List ℕ)) (cs : List FileCommand) (face : FaceText) (part : Part) (group : List FileCommand) → AreCommandsIn lines cs → members cs part ≡ group →
+    Contains (face_of group) face → HasFaceBlock cs face
 block-of lines cs face part [] are is there = absurd (Contains-none face there)
 block-of lines cs face part (h ∷ t) are is there =
     let p = face-is h.command h t face there in

@@ -45,7 +45,8 @@ sited-files-after net chosen router text new config says lines before numbers af
     let no_orphan : (number : ℕ) → ¬ HasOrphanAt new number = no-first new (λ place orphan. s.are.no_orphan place (subst (λ (ls : List (List ℕ)). IsOrphan ls place) same orphan)) in
     let now = lines-exist new no_orphan in
     let sets : config_of cs ≡ config_of (site.front ++ site.back) = ap config_of site.parts in
-    let set : bare_config (config_of s.all) ≡ bare_config (config_of (flat_map site.grow site.front ++ (site.added ++ flat_map site.grow site.back))) = s.set ∙ ap (λ (vs : List FileCommand). bare_config (config_of vs)) site.grown in
+    let set : bare_config (config_of s.all) ≡ bare_config (config_of (flat_map site.grow site.front ++ (site.added ++ flat_map site.grow site.back))) =
+    s.set ∙ ap (λ (vs : List FileCommand). bare_config (config_of vs)) site.grown in
     record {
       now = config_of s.all;
       says = record {
@@ -61,7 +62,8 @@ sited-files-after net chosen router text new config says lines before numbers af
         };
       };
       after = subst (λ (c : Config). AreSettingsAfter net chosen router c (config_of s.all)) (sym (says.is_config.set ∙ sets))
-          (grown-settings net chosen router site.grow site.front site.back site.added (has-grown site.grow site.front site.back site.added site.front_grown site.back_grown site.fresh) site.edited s.all set);
+          (grown-settings net chosen router site.grow site.front site.back site.added
+          (has-grown site.grow site.front site.back site.added site.front_grown site.back_grown site.fresh) site.edited s.all set);
     }
 
 module _ (net : Network) (chosen : List Edit) where
@@ -71,7 +73,8 @@ module _ (net : Network) (chosen : List Edit) where
     said : AllZip Says news ds
     each : (k : ℕ) (c d : Config) → slice_get cs k ≡ Some c → slice_get ds k ≡ Some d → AreSettingsAfter net chosen (start + k) c d
 
-  collect : (start : ℕ) (cs : List Config) (news : List (List ℕ)) → length news ≡ length cs → ((k : ℕ) (c : Config) (new : List ℕ) → slice_get cs k ≡ Some c → slice_get news k ≡ Some new → IsFileAfter net chosen (start + k) c new) → AllAfter start cs news
+  collect : (start : ℕ) (cs : List Config) (news : List (List ℕ)) → length news ≡ length cs →
+      ((k : ℕ) (c : Config) (new : List ℕ) → slice_get cs k ≡ Some c → slice_get news k ≡ Some new → IsFileAfter net chosen (start + k) c new) → AllAfter start cs news
   collect start [] [] e f = record { ds = []; whole = refl; said = tt; each = λ k c d at. absurd (none-some c at) }
   collect start [] (n ∷ ns) e f = absurd (omega (arith, e))
   collect start (c ∷ cs) [] e f = absurd (omega (arith, e))
@@ -89,7 +92,9 @@ module _ (net : Network) (chosen : List Edit) where
           each : (k : ℕ) (x d : Config) → slice_get (c ∷ cs) k ≡ Some x → slice_get (one.now ∷ rest.ds) k ≡ Some d → AreSettingsAfter net chosen (start + k) x d
           each zero x d at_x at_d =
               let place : start ≡ start + 0 = omega arith in
-              subst (λ (r : ℕ). AreSettingsAfter net chosen r x d) place (subst (λ (y : Config). AreSettingsAfter net chosen start x y) (same_Some one.now d at_d) (subst (λ (y : Config). AreSettingsAfter net chosen start y one.now) (same_Some c x at_x) first))
+              subst (λ (r : ℕ). AreSettingsAfter net chosen r x d) place
+              (subst (λ (y : Config). AreSettingsAfter net chosen start x y) (same_Some one.now d at_d)
+              (subst (λ (y : Config). AreSettingsAfter net chosen start y one.now) (same_Some c x at_x) first))
           each (suc k) x d at_x at_d = let place : start + 1 + k ≡ start + suc k = omega arith in subst (λ (r : ℕ). AreSettingsAfter net chosen r x d) place (rest.each k x d at_x at_d)
 
 pub files-have-network : FilesHaveTheNetwork

@@ -1,5 +1,5 @@
 -- The commands of a file by their lines and their parts.
-use Rattle.std.proofs.Common.{◌≡◌, ◌≢◌, ℕ, ◌+◌, ◌⊎◌, inl, inr, not, true, false, Option, Some, None, List, [], ◌∷◌, map, refl, sym, ap, subst, ◌∙◌, arith, ⊎_elim, Contains}
+use Rattle.std.proofs.Common.{◌≡◌, ◌≢◌, ℕ, ◌+◌, ◌⊎◌, inl, inr, not, true, false, Some, List, [], ◌∷◌, map, refl, sym, ap, subst, ◌∙◌, arith, ⊎_elim, Contains}
 use Rattle.std.proofs.lemmas.Bool.{cases_Bool}
 use Rattle.std.proofs.lemmas.Option.{same_Some, none-some}
 use Rattle.arc_base.proofs.Items.{Contains-cases, Contains-none, Contains-head, Contains-tail, Contains-filter, Contains-map, Contains-piece, from_filter}
@@ -21,6 +21,7 @@ use Rattle.ios_config.proofs.LinesBefore.{Rising, rising-from, rising-low}
 use Rattle.ios_config.proofs.OwnBlocks.{own-block}
 use Rattle.ios_config.proofs.PartLists.{is_same-Decides, others}
 use Rattle.patch_laws.specs.ListsGrow.{list_begun}
+use Rattle.patch_laws.proofs.ListsGrow.{made, by-head}
 
 pub rising : (lines : List (List ℕ)) (cs : List FileCommand) → AreCommandsIn lines cs → Rising 1 cs
 rising lines cs are = rising-from (marks_in lines) 1 (marks_in lines) cs are.reads
@@ -89,23 +90,14 @@ prefix-command block (commands.PrefixLine other number entry) name is = (_, _, (
 prefix-command block (commands.ListLine other entry) name is = absurd cc
 prefix-command block _ name is = absurd cc
 
-abbrev pub made : Option (List ℕ × ListKind × ListForm) → List FileCommand → List ListText
-made None cs = []
-made (Some head) cs = list_text head.0 head.1 head.2 cs ∷ []
-
-pub by-head : (command : Command) (cs : List FileCommand) → list_by command cs ≡ made (list_begun command) cs
-by-head (commands.ListBlock extended name) cs = refl
-by-head (commands.ListLine name entry) cs = refl
-by-head (commands.PrefixLine name number entry) cs = refl
-by-head _ cs = refl
-
 -- the file has a list of this name
 pub record Listed (cs : List FileCommand) (name : List ℕ) : Type 0 where
   pub list : ListText
   pub among : Contains (config_of cs).lists list
   pub name_is : list.name ≡ name
 
-group-listed : (cs : List FileCommand) (first : FileCommand) (rest : List FileCommand) (name : List ℕ) (k : ListKind) (f : ListForm) → Contains (groups cs) (first ∷ rest) → list_begun first.command ≡ Some (name, k, f) → Listed cs name
+group-listed : (cs : List FileCommand) (first : FileCommand) (rest : List FileCommand) (name : List ℕ) (k : ListKind) (f : ListForm) → Contains (groups cs) (first ∷ rest) →
+    list_begun first.command ≡ Some (name, k, f) → Listed cs name
 group-listed cs first rest name k f there begun =
     let list = list_text name k f (first ∷ rest) in
     let made_is : list_by first.command (first ∷ rest) ≡ list ∷ [] = by-head first.command (first ∷ rest) ∙ ap (λ o. made o (first ∷ rest)) begun in
@@ -115,7 +107,8 @@ group-listed cs first rest name k f there begun =
       name_is = refl;
     }
 
-pub listed : (lines : List (List ℕ)) (cs : List FileCommand) (c : FileCommand) (name : List ℕ) (k : ListKind) (f : ListForm) → AreCommandsIn lines cs → Contains cs c → list_begun c.command ≡ Some (name, k, f) → Listed cs name
+pub listed : (lines : List (List ℕ)) (cs : List FileCommand) (c : FileCommand) (name : List ℕ) (k : ListKind) (f : ListForm) → AreCommandsIn lines cs → Contains cs c →
+    list_begun c.command ≡ Some (name, k, f) → Listed cs name
 listed lines cs c name k f are has = by c.command refl
   where
     from : (p : Part) → part_of c ≡ p → ((first : FileCommand) → part_of first ≡ p → (j : ListKind) × (e : ListForm) × (list_begun first.command ≡ Some (name, j, e))) → Listed cs name
@@ -140,7 +133,8 @@ listed lines cs c name k f are has = by c.command refl
     by _ is begun = absurd (none-some _ begun)
 
 -- a command of a block is of that block's part, where the lines of lists stand in none
-pub block-part : (block : ℕ) (command : Command) → ((name : List ℕ) → (part_in block command ≡ Lines name) ⊎ (part_in block command ≡ PrefixLines name) → block ≡ 0) → block ≢ 0 → part_in block command ≡ Block block
+pub block-part : (block : ℕ) (command : Command) → ((name : List ℕ) → (part_in block command ≡ Lines name) ⊎ (part_in block command ≡ PrefixLines name) → block ≡ 0) → block ≢ 0 →
+    part_in block command ≡ Block block
 block-part block (commands.ListLine name entry) tops some = absurd (some (tops name (inl refl)))
 block-part block (commands.PrefixLine name number entry) tops some = absurd (some (tops name (inr refl)))
 block-part block _ tops some = refl

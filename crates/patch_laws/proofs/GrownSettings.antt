@@ -41,19 +41,22 @@ plain-pieces (g ∷ gs) = map-append plain_list (list_of g) (flat_map list_of gs
 
 module _ {A : Type 0} (f : List FileCommand → List A) (w : A → A) (old new : Part → List FileCommand) where
   -- groups that each set the same with more
-  grown-all : (ps : List Part) → ((q : Part) → Contains ps q → f (map bare (new q)) ≡ map w (f (map bare (old q)))) → flat_map f (map (map bare) (map new ps)) ≡ map w (flat_map f (map (map bare) (map old ps)))
+  grown-all : (ps : List Part) → ((q : Part) → Contains ps q → f (map bare (new q)) ≡ map w (f (map bare (old q)))) →
+      flat_map f (map (map bare) (map new ps)) ≡ map w (flat_map f (map (map bare) (map old ps)))
   grown-all [] each = refl
   grown-all (p ∷ ps) each =
       (let one = each p (Contains-head p ps) in let rest = grown-all ps (λ q there. each q (Contains-tail p q ps there)) in λ i. one i ++ rest i) ∙
       sym (map-append w (f (map bare (old p))) (flat_map f (map (map bare) (map old ps))))
 
 -- the groups in three
-three-parts : {A : Type 0} (f : List FileCommand → List A) (xs ys zs : List (List FileCommand)) → flat_map f (map (map bare) (xs ++ (ys ++ zs))) ≡ flat_map f (map (map bare) xs) ++ (flat_map f (map (map bare) ys) ++ flat_map f (map (map bare) zs))
+three-parts : {A : Type 0} (f : List FileCommand → List A) (xs ys zs : List (List FileCommand)) →
+    flat_map f (map (map bare) (xs ++ (ys ++ zs))) ≡ flat_map f (map (map bare) xs) ++ (flat_map f (map (map bare) ys) ++ flat_map f (map (map bare) zs))
 three-parts f xs ys zs =
     ap (flat_map f) (map-append (map bare) xs (ys ++ zs) ∙ ap (λ l. map (map bare) xs ++ l) (map-append (map bare) ys zs)) ∙
     flat_map-append f (map (map bare) xs) (map (map bare) ys ++ map (map bare) zs) ∙ ap (λ l. flat_map f (map (map bare) xs) ++ l) (flat_map-append f (map (map bare) ys) (map (map bare) zs))
 
-module _ (net : Network) (chosen : List Edit) (router : ℕ) (grow : FileCommand → List FileCommand) (front back added : List FileCommand) (g : HasGrownGroups grow front back added) (e : GrowAsEdited net chosen router grow front back added) where
+module _ (net : Network) (chosen : List Edit) (router : ℕ) (grow : FileCommand → List FileCommand) (front back added : List FileCommand) (g : HasGrownGroups grow front back added)
+    (e : GrowAsEdited net chosen router grow front back added) where
   abbrev old : List FileCommand
   old = front ++ back
 
@@ -86,7 +89,8 @@ module _ (net : Network) (chosen : List Edit) (router : ℕ) (grow : FileCommand
       λ i. one i ++ (flat_map f (new_groups added) ++ two i))
 
   -- where no new group makes anything
-  made-alike : {A : Type 0} (f : List FileCommand → List A) (w : A → A) → ((q : Part) → Contains (distinct (map part_of old)) q → f (map bare (now q)) ≡ map w (f (map bare (was q)))) → flat_map f (new_groups added) ≡ [] →
+  made-alike : {A : Type 0} (f : List FileCommand → List A) (w : A → A) → ((q : Part) → Contains (distinct (map part_of old)) q → f (map bare (now q)) ≡ map w (f (map bare (was q)))) →
+      flat_map f (new_groups added) ≡ [] →
       flat_map f (bare_groups new) ≡ map w (flat_map f (bare_groups old))
   made-alike f w each none =
       let x = flat_map f (map (map bare) (map was g.before)) in
@@ -107,7 +111,8 @@ module _ (net : Network) (chosen : List Edit) (router : ℕ) (grow : FileCommand
     old_lists = plain old ∙ made-old (λ h. map plain_list (list_of h));
     new_lists =
         let f = λ (h : List FileCommand). map plain_list (list_of h) in
-        sym (plain-of-bare (config_of all).lists) ∙ ap (λ (c : Config). map plain_list c.lists) same ∙ plain-of-bare (config_of new).lists ∙ plain new ∙ made-new f (list_with net chosen router) e.lists ∙
+        sym (plain-of-bare (config_of all).lists) ∙ ap (λ (c : Config). map plain_list c.lists) same ∙ plain-of-bare (config_of new).lists ∙ plain new
+        ∙ made-new f (list_with net chosen router) e.lists ∙
         ap (λ l. map (list_with net chosen router) (flat_map f (map (map bare) (map was g.before))) ++ (l ++ map (list_with net chosen router) (flat_map f (map (map bare) (map was g.after)))))
         (sym (plain-pieces (new_groups added)) ∙ e.new_lists);
     process =

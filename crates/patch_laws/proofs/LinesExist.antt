@@ -1,5 +1,6 @@
 -- Each text that can be cut has lines.
-use Rattle.std.proofs.Common.{◌≡◌, ◌≢◌, ℕ, zero, suc, ◌+◌, ◌-◌, ◌<◌, ◌≤◌, ◌==◌, inl, inr, Bool, true, false, not, List, [], ◌∷◌, map, length, drop, slice_get, slice_index, slice_range, Some, None, refl, sym, ap, subst, ◌∙◌, arith, ⊎_elim, All}
+use Rattle.std.proofs.Common.{◌≡◌, ◌≢◌, ℕ, zero, suc, ◌+◌, ◌-◌, ◌<◌, ◌≤◌, ◌==◌, inl, inr, Bool, true, false, not, List, [], ◌∷◌, map, length, drop, slice_get, slice_index, slice_range, Some}
+use Rattle.std.proofs.Common.{None, refl, sym, ap, subst, ◌∙◌, arith, ⊎_elim, All}
 use Rattle.std.proofs.lemmas.Bool.{cases_lt, cases_eq, cases_Bool, eqb-true, eqb-false}
 use Rattle.std.proofs.lemmas.List.{drop_all}
 use Rattle.std.proofs.lemmas.List.Elements.{All-nil, All-cons}
@@ -123,7 +124,8 @@ module _ (text : List ℕ) (at : ℕ) (some : at < length text) where
 
   by-feed : Found (λ k. slice_index text k == 10) at (length text) → NextLine text at
   by-feed f = ⊎_elim
-      (λ (inside : f.place < length text). feed-line f.place f.low inside (eqb-true (slice_index text f.place) 10 (f.there inside)) (λ j from below. eqb-false (slice_index text j) 10 (f.before j from below)))
+      (λ (inside : f.place < length text). feed-line f.place f.low inside (eqb-true (slice_index text f.place) 10 (f.there inside))
+      (λ j from below. eqb-false (slice_index text j) 10 (f.before j from below)))
       (λ (last : length text ≤ f.place).
       let high : f.place ≤ length text = f.high in
       record { to = f.place; end = 0; is = record { ordered = f.low; no_feed = λ j from below. eqb-false (slice_index text j) 10 (f.before j from below); ending = (omega arith, omega arith) } })
@@ -140,7 +142,8 @@ pub record Rest (text : List ℕ) (at count : ℕ) : Type 0 where
   pub inside : All (HasWordsIn text) rows
   pub each : (place : ℕ) (line : Line) → slice_get rows place ≡ Some line → IsRow text (count + place) line
 
-each-row : (text : List ℕ) (count : ℕ) (line : Line) (rows : List Line) → IsRow text count line → ((place : ℕ) (l : Line) → slice_get rows place ≡ Some l → IsRow text (count + 1 + place) l) → (place : ℕ) (l : Line) → slice_get (line ∷ rows) place ≡ Some l → IsRow text (count + place) l
+each-row : (text : List ℕ) (count : ℕ) (line : Line) (rows : List Line) → IsRow text count line →
+    ((place : ℕ) (l : Line) → slice_get rows place ≡ Some l → IsRow text (count + 1 + place) l) → (place : ℕ) (l : Line) → slice_get (line ∷ rows) place ≡ Some l → IsRow text (count + place) l
 each-row text count line rows first rest zero l is = let same : count ≡ count + 0 = omega arith in subst (λ (n : ℕ). IsRow text n l) same (subst (IsRow text count) (same_Some line l is) first)
 each-row text count line rows first rest (suc place) l is = let same : count + 1 + place ≡ count + suc place = omega arith in subst (λ (n : ℕ). IsRow text n l) same (rest place l is)
 
@@ -160,14 +163,29 @@ module _ (text : List ℕ) (none : (number : ℕ) → ¬ HasOrphanAt text number
   row-here at state stands some next spans more =
       let k = kind_within state.banner (slice_range text at next.to) in
       let bytes : List ℕ = slice_range text at next.to in
-      let line : Line = record { span = record { from = at; to = next.to }; end = next.end; block = block_after k (state.count + 1) state.block; head = is_head k; inert = is_inert k; words = spans.words } in
+      let line : Line = record {
+        span = record { from = at; to = next.to };
+        end = next.end;
+        block = block_after k (state.count + 1) state.block;
+        head = is_head k;
+        inert =
+            is_inert k;
+        words = spans.words;
+      } in
       let bounds = line-bounds text at next.to next.end next.is in
       let test : is_alone k state.block ≡ false = ⊎_elim
       (λ (yes : is_alone k state.block ≡ true). absurd (none (state.count + 1) (orphan-here text at next.to next.end state k some stands next.is refl yes)))
       (λ (no : is_alone k state.block ≡ false). no)
       (cases_Bool (is_alone k state.block)) in
       let low : at ≤ next.to = next.is.ordered in
-      let is = is-next text at state (record { count = state.count + 1; block = block_after k (state.count + 1) state.block; banner = after_line state.banner bytes; first = first_after state.banner (state.count + 1) state.first }) line k
+      let is = is-next text at state
+      (record {
+        count = state.count + 1;
+        block = block_after k (state.count + 1) state.block;
+        banner = after_line state.banner bytes;
+        first =
+            first_after state.banner (state.count + 1) state.first;
+      }) line k
       some stands refl next.is refl test refl refl refl refl refl refl refl spans.are (spans-words text at next.to spans.words low bounds.2 spans.are) in
       let rest : Rest text (next.to + next.end) (state.count + 1) = more (next.to + next.end) _ is.stands bounds.0 in
       record {
@@ -204,7 +222,13 @@ module _ (text : List ℕ) (none : (number : ℕ) → ¬ HasOrphanAt text number
       let rest = rest-from (length text) 0 (record { count = 0; block = 0; banner = None; first = 0 }) stands (omega arith) in
       record {
         lines = record { rows = rest.rows };
-        are = record { join = rest.join; texts = rest.texts; inside = rest.inside; rows = λ place line is. let same : 0 + place ≡ place = omega arith in subst (λ (n : ℕ). IsRow text n line) same (rest.each place line is) };
+        are = record {
+          join = rest.join;
+          texts = rest.texts;
+          inside = rest.inside;
+          rows = λ place line is. let same : 0 + place ≡ place =
+              omega arith in subst (λ (n : ℕ). IsRow text n line) same (rest.each place line is);
+        };
       }
     where
       none-is : {A : Type 0} → false ≡ true → A

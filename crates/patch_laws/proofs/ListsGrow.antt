@@ -13,11 +13,11 @@ use Rattle.settings_edit_laws.specs.SettingsAfter.{list_with}
 use Rattle.patch_laws.specs.ListsGrow.{list_begun, ListsGrow}
 
 -- the list that is begun so
-abbrev made : Option (List ℕ × ListKind × ListForm) → List FileCommand → List ListText
+abbrev pub made : Option (List ℕ × ListKind × ListForm) → List FileCommand → List ListText
 made None cs = []
 made (Some head) cs = list_text head.0 head.1 head.2 cs ∷ []
 
-by-head : (command : Command) (cs : List FileCommand) → list_by command cs ≡ made (list_begun command) cs
+pub by-head : (command : Command) (cs : List FileCommand) → list_by command cs ≡ made (list_begun command) cs
 by-head (commands.ListBlock extended name) cs = refl
 by-head (commands.ListLine name entry) cs = refl
 by-head (commands.PrefixLine name number entry) cs = refl

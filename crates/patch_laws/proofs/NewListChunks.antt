@@ -1,5 +1,6 @@
 -- The lines of new lists may be put before a top line, and are read as the entries of these lists.
-use Rattle.std.proofs.Common.{◌≡◌, ◌≢◌, ℕ, ◌+◌, ◌*◌, ◌<◌, ◌≤◌, inr, true, false, Some, None, List, [], ◌∷◌, ◌++◌, length, map, refl, sym, ap, subst, ◌∙◌, arith, append_assoc, append-nil, Contains, IsTrue}
+use Rattle.std.proofs.Common.{◌≡◌, ◌≢◌, ℕ, ◌+◌, ◌*◌, ◌<◌, ◌≤◌, inr, true, false, Some, None, List, [], ◌∷◌, ◌++◌, length, map, refl, sym, ap, subst, ◌∙◌, arith, append_assoc, append-nil}
+use Rattle.std.proofs.Common.{Contains, IsTrue}
 use Rattle.std.specs.Prelude.{codes}
 use Rattle.std.specs.List.{AllByRecursion, enumerate_from, flat_map}
 use Rattle.std.proofs.lemmas.Bool.{ne_eqb}
@@ -48,7 +49,8 @@ all-single name is other number low high =
 entry-block-line : (entry : PacketEntry) → IsTrue (is_writable entry.service) → IsBlockLine kinds.Extended (written_of (new_entry entry))
 entry-block-line entry writable = plain-entry None (packet_text entry) (read-plain kinds.Extended (commands.Entry None (packet_text entry)) writable tt tt)
 
-packet-lines : (classes : List Class) → ((class : Class) → Contains classes class → IsTrue (is_writable class.service)) → AllByRecursion (IsBlockLine kinds.Extended) (map written_of (new_entries classes))
+packet-lines : (classes : List Class) → ((class : Class) → Contains classes class → IsTrue (is_writable class.service)) →
+    AllByRecursion (IsBlockLine kinds.Extended) (map written_of (new_entries classes))
 packet-lines [] writable = (entry-block-line every_packet refl, tt)
 packet-lines (class ∷ classes) writable =
     (entry-block-line (class_entry false class) (writable class (Contains-head class classes)), packet-lines classes (λ c there. writable c (Contains-tail class c classes there)))
@@ -59,36 +61,46 @@ packet-parts key [] = (refl, tt)
 packet-parts key (class ∷ classes) = (refl, packet-parts key classes)
 
 -- the blocks of new lists are of later numbers
-route-clear : (j : ℕ) (ws : List Written) → AllByRecursion (λ (w : Written). is_same (Block j) (part_in 0 w.command) ≡ false) ws → AllByRecursion (λ (v : FileCommand). is_same (Block j) (part_of v) ≡ false) (flat_map chunk_commands (map Single ws))
+route-clear : (j : ℕ) (ws : List Written) → AllByRecursion (λ (w : Written). is_same (Block j) (part_in 0 w.command) ≡ false) ws →
+    AllByRecursion (λ (v : FileCommand). is_same (Block j) (part_of v) ≡ false) (flat_map chunk_commands (map Single ws))
 route-clear j [] all = tt
 route-clear j (w ∷ ws) all = (all.0, route-clear j ws all.1)
 
-route-parts : (j : ℕ) (name : List ℕ) (entries : List (ℕ × Prefix)) (last : ℕ) → AllByRecursion (λ (w : Written). is_same (Block j) (part_in 0 w.command) ≡ false) (map written_of (map (deny_prefix name) entries ++ permit_all name last ∷ []))
+route-parts : (j : ℕ) (name : List ℕ) (entries : List (ℕ × Prefix)) (last : ℕ) →
+    AllByRecursion (λ (w : Written). is_same (Block j) (part_in 0 w.command) ≡ false) (map written_of (map (deny_prefix name) entries ++ permit_all name last ∷ []))
 route-parts j name [] last = (refl, tt)
 route-parts j name (e ∷ entries) last = (refl, route-parts j name entries last)
 
-block-clear : (j key : ℕ) → j ≢ key → (ws : List Written) → AllByRecursion (λ (w : Written). part_in key w.command ≡ Block key) ws → AllByRecursion (λ (v : FileCommand). is_same (Block j) (part_of v) ≡ false) (map (in_block key) ws)
+block-clear : (j key : ℕ) → j ≢ key → (ws : List Written) → AllByRecursion (λ (w : Written). part_in key w.command ≡ Block key) ws →
+    AllByRecursion (λ (v : FileCommand). is_same (Block j) (part_of v) ≡ false) (map (in_block key) ws)
 block-clear j key other [] all = tt
 block-clear j key other (w ∷ ws) all = (ap (is_same (Block j)) all.0 ∙ ne_eqb j key other, block-clear j key other ws all.1)
 
-one-clear : (chosen : List Edit) (j key : ℕ) → j ≢ key → (list : NewList) (name : List ℕ) → AllByRecursion (λ (v : FileCommand). is_same (Block j) (part_of v) ≡ false) (flat_map chunk_commands (new_chunks chosen key list name))
-one-clear chosen j key other (Route face) name = route-clear j (map written_of (new_route_commands name (new_prefixes chosen face.0))) (route-parts j name (enumerate_from 1 (new_prefixes chosen face.0)) (5 * (length (new_prefixes chosen face.0) + 1)))
+one-clear : (chosen : List Edit) (j key : ℕ) → j ≢ key → (list : NewList) (name : List ℕ) →
+    AllByRecursion (λ (v : FileCommand). is_same (Block j) (part_of v) ≡ false) (flat_map chunk_commands (new_chunks chosen key list name))
+one-clear chosen j key other (Route face) name = route-clear j (map written_of (new_route_commands name (new_prefixes chosen face.0)))
+    (route-parts j name (enumerate_from 1 (new_prefixes chosen face.0)) (5 * (length (new_prefixes chosen face.0) + 1)))
 one-clear chosen j key other (Packet face) name =
-    subst (AllByRecursion (λ (v : FileCommand). is_same (Block j) (part_of v) ≡ false)) (sym (append-nil (chunk_commands (NewBlock key (written_of (commands.ListBlock true name)) (map written_of (new_entries (new_classes chosen face.0))) (line_of commands.Inert)))))
+    subst (AllByRecursion (λ (v : FileCommand). is_same (Block j) (part_of v) ≡ false))
+    (sym (append-nil (chunk_commands (NewBlock key (written_of (commands.ListBlock true name)) (map written_of (new_entries (new_classes chosen face.0))) (line_of commands.Inert)))))
     (ne_eqb j key other, block-clear j key other (map written_of (new_entries (new_classes chosen face.0))) (packet-parts key (new_classes chosen face.0)))
 
-lists-clear : (chosen : List Edit) (j key : ℕ) → j < key → (ns : List (NewList × List ℕ)) → AllByRecursion (λ (v : FileCommand). is_same (Block j) (part_of v) ≡ false) (flat_map chunk_commands (list_chunks chosen key ns))
+lists-clear : (chosen : List Edit) (j key : ℕ) → j < key → (ns : List (NewList × List ℕ)) →
+    AllByRecursion (λ (v : FileCommand). is_same (Block j) (part_of v) ≡ false) (flat_map chunk_commands (list_chunks chosen key ns))
 lists-clear chosen j key low [] = tt
 lists-clear chosen j key low (n ∷ ns) =
     subst (AllByRecursion (λ (v : FileCommand). is_same (Block j) (part_of v) ≡ false)) (sym (flat_map-append chunk_commands (new_chunks chosen key n.0 n.1) (list_chunks chosen (key + 1) ns)))
-    (AllByRecursion-append (λ (v : FileCommand). is_same (Block j) (part_of v) ≡ false) (flat_map chunk_commands (new_chunks chosen key n.0 n.1)) (flat_map chunk_commands (list_chunks chosen (key + 1) ns))
+    (AllByRecursion-append (λ (v : FileCommand). is_same (Block j) (part_of v) ≡ false) (flat_map chunk_commands (new_chunks chosen key n.0 n.1))
+    (flat_map chunk_commands (list_chunks chosen (key + 1) ns))
     (one-clear chosen j key (λ same. omega arith) n.0 n.1) (lists-clear chosen j (key + 1) (omega arith) ns))
 
 -- the chunks may be put there
-pub chunks-append : (number : ℕ) (later : List FileCommand) (xs ys : List Chunk) → AreChunks number (flat_map chunk_commands ys ++ later) xs → AreChunks number later ys → AreChunks number later (xs ++ ys)
+pub chunks-append : (number : ℕ) (later : List FileCommand) (xs ys : List Chunk) → AreChunks number (flat_map chunk_commands ys ++ later) xs → AreChunks number later ys →
+    AreChunks number later (xs ++ ys)
 chunks-append number later [] ys one two = two
 chunks-append number later (x ∷ xs) ys one two = (
-  subst (λ (vs : List FileCommand). edits.IsChunk number vs x) (sym (append_assoc (flat_map chunk_commands xs) (flat_map chunk_commands ys) later) ∙ ap (λ (vs : List FileCommand). vs ++ later) (sym (flat_map-append chunk_commands xs ys))) one.0,
+  subst (λ (vs : List FileCommand). edits.IsChunk number vs x)
+      (sym (append_assoc (flat_map chunk_commands xs) (flat_map chunk_commands ys) later) ∙ ap (λ (vs : List FileCommand). vs ++ later) (sym (flat_map-append chunk_commands xs ys))) one.0,
   chunks-append number later xs ys one.1 two,
 )
 
@@ -96,16 +108,20 @@ pub single-chunks : (number : ℕ) (later : List FileCommand) (ws : List Written
 single-chunks number later [] all = tt
 single-chunks number later (w ∷ ws) all = (all.0, single-chunks number later ws all.1)
 
-route-singles : (name : List ℕ) → IsTrue (is_name name) → name ≢ codes "sequence-number" → (k : ℕ) (prefixes : List Prefix) (last : ℕ) → 1 ≤ k → k + length prefixes ≤ 16385 → 1 ≤ last → last ≤ 100000 →
+route-singles : (name : List ℕ) → IsTrue (is_name name) → name ≢ codes "sequence-number" → (k : ℕ) (prefixes : List Prefix) (last : ℕ) → 1 ≤ k → k + length prefixes ≤ 16385 →
+    1 ≤ last → last ≤ 100000 →
     AllByRecursion IsSingleLine (map written_of (map (deny_prefix name) (enumerate_from k prefixes) ++ permit_all name last ∷ []))
 route-singles name is other k [] last low high some few = (all-single name is other last some few, tt)
-route-singles name is other k (p ∷ prefixes) last low high some few = (prefix-single name is other (k, p) low (omega arith), route-singles name is other (k + 1) prefixes last (omega arith) (omega arith) some few)
+route-singles name is other k (p ∷ prefixes) last low high some few =
+    (prefix-single name is other (k, p) low (omega arith), route-singles name is other (k + 1) prefixes last (omega arith) (omega arith) some few)
 
-one-chunk : (chosen : List Edit) (number key : ℕ) (later : List FileCommand) (list : NewList) (name : List ℕ) → IsNewName chosen (list, name) → number < key → AllByRecursion (λ (v : FileCommand). is_same (Block key) (part_of v) ≡ false) later →
+one-chunk : (chosen : List Edit) (number key : ℕ) (later : List FileCommand) (list : NewList) (name : List ℕ) → IsNewName chosen (list, name) → number < key →
+    AllByRecursion (λ (v : FileCommand). is_same (Block key) (part_of v) ≡ false) later →
     AreChunks number later (new_chunks chosen key list name)
 one-chunk chosen number key later (Route face) name is high fresh =
     let few = is.few face.0 in
-    single-chunks number later (map written_of (new_route_commands name (new_prefixes chosen face.0))) (route-singles name is.name is.other 1 (new_prefixes chosen face.0) (5 * (length (new_prefixes chosen face.0) + 1)) (omega arith) (omega arith) (omega arith) (omega arith))
+    single-chunks number later (map written_of (new_route_commands name (new_prefixes chosen face.0)))
+    (route-singles name is.name is.other 1 (new_prefixes chosen face.0) (5 * (length (new_prefixes chosen face.0) + 1)) (omega arith) (omega arith) (omega arith) (omega arith))
 one-chunk chosen number key later (Packet face) name is high fresh =
     let head = read-plain kinds.Top (commands.ListBlock true name) tt is.name tt in (
       record {
@@ -130,7 +146,8 @@ new-chunks-good chosen number key later [] all high clear = tt
 new-chunks-good chosen number key later (n ∷ ns) all high clear =
     let rest = flat_map chunk_commands (list_chunks chosen (key + 1) ns) in
     chunks-append number later (new_chunks chosen key n.0 n.1) (list_chunks chosen (key + 1) ns)
-    (one-chunk chosen number key (rest ++ later) n.0 n.1 all.0 high (AllByRecursion-append (λ (v : FileCommand). is_same (Block key) (part_of v) ≡ false) rest later (lists-clear chosen key (key + 1) (omega arith) ns) (clear key (omega arith))))
+    (one-chunk chosen number key (rest ++ later) n.0 n.1 all.0 high
+    (AllByRecursion-append (λ (v : FileCommand). is_same (Block key) (part_of v) ≡ false) rest later (lists-clear chosen key (key + 1) (omega arith) ns) (clear key (omega arith))))
     (new-chunks-good chosen number (key + 1) later ns all.1 (omega arith) (λ j low. clear j (omega arith)))
 
 -- their lines are those of the new lists
@@ -147,7 +164,8 @@ one-lines chosen key (Route face) name = single-lines (new_route_commands name (
 one-lines chosen key (Packet face) name =
     let entries = new_entries (new_classes chosen face.0) in
     append-nil (chunk_lines (NewBlock key (written_of (commands.ListBlock true name)) (map written_of entries) (line_of commands.Inert))) ∙
-    ap (λ ls. line_of (commands.ListBlock true name) ∷ (ls ++ line_of commands.Inert ∷ [])) (written-lines entries) ∙ ap (λ ls. line_of (commands.ListBlock true name) ∷ ls) (sym (map-append line_of entries (commands.Inert ∷ [])))
+    ap (λ ls. line_of (commands.ListBlock true name) ∷ (ls ++ line_of commands.Inert ∷ [])) (written-lines entries)
+    ∙ ap (λ ls. line_of (commands.ListBlock true name) ∷ ls) (sym (map-append line_of entries (commands.Inert ∷ [])))
 
 pub new-chunk-lines : NewListsHaveTheirLines
 new-chunk-lines chosen key [] = refl

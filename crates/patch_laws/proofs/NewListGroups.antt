@@ -96,7 +96,8 @@ none-together p [] are fresh = refl
 none-together p (s ∷ ss) are fresh =
     filter-append (λ d. is_same p (part_of d)) s.1 (together ss) ∙ (let one = none-mine s.0 p s.1 are.0.own fresh.0 in let rest = none-together p ss are.2 fresh.1 in λ i. one i ++ rest i)
 
-later-members : (s : Seg) (rest : List FileCommand) → IsSegment s.0 s.1 → (ts : List Seg) → AllByRecursion (λ (t : Seg). is_same s.0 t.0 ≡ false) ts → map (members (s.1 ++ rest)) (map (λ (t : Seg). t.0) ts) ≡ map (members rest) (map (λ (t : Seg). t.0) ts)
+later-members : (s : Seg) (rest : List FileCommand) → IsSegment s.0 s.1 → (ts : List Seg) → AllByRecursion (λ (t : Seg). is_same s.0 t.0 ≡ false) ts →
+    map (members (s.1 ++ rest)) (map (λ (t : Seg). t.0) ts) ≡ map (members rest) (map (λ (t : Seg). t.0) ts)
 later-members s rest is [] fresh = refl
 later-members s rest is (t ∷ ts) fresh =
     (let one = filter-append (λ d. is_same t.0 (part_of d)) s.1 rest ∙ ap (λ r. r ++ members rest t.0) (none-mine s.0 t.0 s.1 is.own (other-way t.0 s.0 fresh.0)) in
@@ -105,7 +106,8 @@ later-members s rest is (t ∷ ts) fresh =
 pub segment-members : (ss : List Seg) → AreSegments ss → map (members (together ss)) (map (λ (s : Seg). s.0) ss) ≡ map (λ (s : Seg). s.1) ss
 segment-members [] are = refl
 segment-members (s ∷ ss) are =
-    (let one = filter-append (λ d. is_same s.0 (part_of d)) s.1 (together ss) ∙ (let mine = all-mine s.0 s.1 are.0.own in let none = none-together s.0 ss are.2 are.1 in λ i. mine i ++ none i) ∙ append-nil s.1 in
+    (let one = filter-append (λ d. is_same s.0 (part_of d)) s.1 (together ss)
+    ∙ (let mine = all-mine s.0 s.1 are.0.own in let none = none-together s.0 ss are.2 are.1 in λ i. mine i ++ none i) ∙ append-nil s.1 in
     let rest = later-members s (together ss) are.0 ss are.1 ∙ segment-members ss are.2 in λ i. one i ∷ rest i)
 
 segment-groups : (ss : List Seg) → AreSegments ss → new_groups (together ss) ≡ map (map bare) (map (λ (s : Seg). s.1) ss)
@@ -126,7 +128,8 @@ segs chosen key (n ∷ ns) = seg_for chosen key n ∷ segs chosen (key + 1) ns
 pub segs-together : (chosen : List Edit) (key : ℕ) (ns : List (NewList × List ℕ)) → flat_map chunk_commands (list_chunks chosen key ns) ≡ together (segs chosen key ns)
 segs-together chosen key [] = refl
 segs-together chosen key (n ∷ ns) =
-    flat_map-append chunk_commands (new_chunks chosen key n.0 n.1) (list_chunks chosen (key + 1) ns) ∙ ap (λ r. flat_map chunk_commands (new_chunks chosen key n.0 n.1) ++ r) (segs-together chosen (key + 1) ns)
+    flat_map-append chunk_commands (new_chunks chosen key n.0 n.1) (list_chunks chosen (key + 1) ns)
+    ∙ ap (λ r. flat_map chunk_commands (new_chunks chosen key n.0 n.1) ++ r) (segs-together chosen (key + 1) ns)
 
 pub single-commands : (ws : List Written) → flat_map chunk_commands (map Single ws) ≡ map (in_block 0) ws
 single-commands [] = refl
@@ -144,16 +147,20 @@ any-whole : whole ≡ any
 unfolding holding
 any-whole = same_prefix whole any refl refl
 
-route-entries : (name : List ℕ) (k : ℕ) (prefixes : List Prefix) (last : ℕ) → map plain_entry (entries (map bare (route_commands name (enumerate_from k prefixes) last))) ≡ map said (map (route_line name) (new_route_entries prefixes))
+route-entries : (name : List ℕ) (k : ℕ) (prefixes : List Prefix) (last : ℕ) →
+    map plain_entry (entries (map bare (route_commands name (enumerate_from k prefixes) last))) ≡ map said (map (route_line name) (new_route_entries prefixes))
 route-entries name k [] last = ap (λ (p : Prefix). said (commands.PrefixLine name None (record { permit = true; prefix = p; low = 0; high = 32 })) ∷ []) any-whole
 route-entries name k (p ∷ prefixes) last = ap (λ r. said (route_line name (exact_entry false p)) ∷ r) (route-entries name (k + 1) prefixes last)
 
 route-list : (name : List ℕ) (k : ℕ) (prefixes : List Prefix) (last : ℕ) → map plain_list (list_of (map bare (route_commands name (enumerate_from k prefixes) last))) ≡
     record { name = name; kind = list_kinds.Prefix; form = forms.PrefixLines; numbered = false; entries = map said (map (route_line name) (new_route_entries prefixes)) } ∷ []
-route-list name k [] last = ap (λ (es : List (Given Command)). record { name = name; kind = list_kinds.Prefix; form = forms.PrefixLines; numbered = false; entries = es } ∷ []) (route-entries name k [] last)
-route-list name k (p ∷ prefixes) last = ap (λ (es : List (Given Command)). record { name = name; kind = list_kinds.Prefix; form = forms.PrefixLines; numbered = false; entries = es } ∷ []) (route-entries name k (p ∷ prefixes) last)
+route-list name k [] last = ap (λ (es : List (Given Command)). record { name = name; kind = list_kinds.Prefix; form = forms.PrefixLines; numbered = false; entries = es } ∷ [])
+    (route-entries name k [] last)
+route-list name k (p ∷ prefixes) last =
+    ap (λ (es : List (Given Command)). record { name = name; kind = list_kinds.Prefix; form = forms.PrefixLines; numbered = false; entries = es } ∷ []) (route-entries name k (p ∷ prefixes) last)
 
-route-none : (name : List ℕ) (k : ℕ) (prefixes : List Prefix) (last : ℕ) → (face_of (map bare (route_commands name (enumerate_from k prefixes) last)) ≡ []) × (process_of (map bare (route_commands name (enumerate_from k prefixes) last)) ≡ [])
+route-none : (name : List ℕ) (k : ℕ) (prefixes : List Prefix) (last : ℕ) →
+    (face_of (map bare (route_commands name (enumerate_from k prefixes) last)) ≡ []) × (process_of (map bare (route_commands name (enumerate_from k prefixes) last)) ≡ [])
 route-none name k [] last = (refl, refl)
 route-none name k (p ∷ prefixes) last = (refl, refl)
 
@@ -162,7 +169,8 @@ packet-own : (key : ℕ) (classes : List Class) → AllByRecursion (λ (v : File
 packet-own key [] = (refl, tt)
 packet-own key (c ∷ classes) = (refl, packet-own key classes)
 
-packet-entries : (name : List ℕ) (key : ℕ) (classes : List Class) → map plain_entry (entries (map bare (map (in_block key) (map written_of (new_entries classes))))) ≡ map said (map (packet_command forms.Block name None) (new_packet_entries classes))
+packet-entries : (name : List ℕ) (key : ℕ) (classes : List Class) →
+    map plain_entry (entries (map bare (map (in_block key) (map written_of (new_entries classes))))) ≡ map said (map (packet_command forms.Block name None) (new_packet_entries classes))
 packet-entries name key [] = refl
 packet-entries name key (c ∷ classes) = ap (λ r. said (packet_command forms.Block name None (class_entry false c)) ∷ r) (packet-entries name key classes)
 
@@ -191,14 +199,19 @@ segment-of chosen key (Packet face) name =
     filled e = absurd cc
 
 -- what each sets
-one-list : (chosen : List Edit) (key : ℕ) (list : NewList) (name : List ℕ) → map plain_list (list_of (map bare (flat_map chunk_commands (new_chunks chosen key list name)))) ≡ new_list_text chosen name list ∷ []
+one-list : (chosen : List Edit) (key : ℕ) (list : NewList) (name : List ℕ) →
+    map plain_list (list_of (map bare (flat_map chunk_commands (new_chunks chosen key list name)))) ≡ new_list_text chosen name list ∷ []
 one-list chosen key (Route face) name =
-    ap (λ cs. map plain_list (list_of (map bare cs))) (single-commands (map written_of (new_route_commands name (new_prefixes chosen face.0)))) ∙ route-list name 1 (new_prefixes chosen face.0) (5 * (length (new_prefixes chosen face.0) + 1))
+    ap (λ cs. map plain_list (list_of (map bare cs))) (single-commands (map written_of (new_route_commands name (new_prefixes chosen face.0))))
+    ∙ route-list name 1 (new_prefixes chosen face.0) (5 * (length (new_prefixes chosen face.0) + 1))
 one-list chosen key (Packet face) name =
-    ap (λ cs. map plain_list (list_of (map bare cs))) (append-nil (in_block key (written_of (commands.ListBlock true name)) ∷ map (in_block key) (map written_of (new_entries (new_classes chosen face.0))))) ∙
-    ap (λ (es : List (Given Command)). record { name = name; kind = list_kinds.Extended; form = forms.Block; numbered = false; entries = es } ∷ []) (packet-entries name key (new_classes chosen face.0))
+    ap (λ cs. map plain_list (list_of (map bare cs)))
+    (append-nil (in_block key (written_of (commands.ListBlock true name)) ∷ map (in_block key) (map written_of (new_entries (new_classes chosen face.0))))) ∙
+    ap (λ (es : List (Given Command)). record { name = name; kind = list_kinds.Extended; form = forms.Block; numbered = false; entries = es } ∷ [])
+    (packet-entries name key (new_classes chosen face.0))
 
-one-none : (chosen : List Edit) (key : ℕ) (list : NewList) (name : List ℕ) → (face_of (map bare (flat_map chunk_commands (new_chunks chosen key list name))) ≡ []) × (process_of (map bare (flat_map chunk_commands (new_chunks chosen key list name))) ≡ [])
+one-none : (chosen : List Edit) (key : ℕ) (list : NewList) (name : List ℕ) →
+    (face_of (map bare (flat_map chunk_commands (new_chunks chosen key list name))) ≡ []) × (process_of (map bare (flat_map chunk_commands (new_chunks chosen key list name))) ≡ [])
 one-none chosen key (Route face) name =
     let ps = new_prefixes chosen face.0 in
     let both = route-none name 1 ps (5 * (length ps + 1)) in
@@ -206,13 +219,15 @@ one-none chosen key (Route face) name =
     (ap (λ cs. face_of (map bare cs)) is ∙ both.0, ap (λ cs. process_of (map bare cs)) is ∙ both.1)
 one-none chosen key (Packet face) name = (refl, refl)
 
-lists-set : (chosen : List Edit) (key : ℕ) (ns : List (NewList × List ℕ)) → map plain_list (flat_map list_of (map (map bare) (map (λ (s : Seg). s.1) (segs chosen key ns)))) ≡ map (λ (n : NewList × List ℕ). new_list_text chosen n.1 n.0) ns
+lists-set : (chosen : List Edit) (key : ℕ) (ns : List (NewList × List ℕ)) →
+    map plain_list (flat_map list_of (map (map bare) (map (λ (s : Seg). s.1) (segs chosen key ns)))) ≡ map (λ (n : NewList × List ℕ). new_list_text chosen n.1 n.0) ns
 lists-set chosen key [] = refl
 lists-set chosen key (n ∷ ns) =
     map-append plain_list (list_of (map bare (flat_map chunk_commands (new_chunks chosen key n.0 n.1)))) (flat_map list_of (map (map bare) (map (λ (s : Seg). s.1) (segs chosen (key + 1) ns)))) ∙
     (let one = one-list chosen key n.0 n.1 in let rest = lists-set chosen (key + 1) ns in λ i. one i ++ rest i)
 
-none-set : (chosen : List Edit) (key : ℕ) (ns : List (NewList × List ℕ)) → (flat_map face_of (map (map bare) (map (λ (s : Seg). s.1) (segs chosen key ns))) ≡ []) × (flat_map process_of (map (map bare) (map (λ (s : Seg). s.1) (segs chosen key ns))) ≡ [])
+none-set : (chosen : List Edit) (key : ℕ) (ns : List (NewList × List ℕ)) →
+    (flat_map face_of (map (map bare) (map (λ (s : Seg). s.1) (segs chosen key ns))) ≡ []) × (flat_map process_of (map (map bare) (map (λ (s : Seg). s.1) (segs chosen key ns))) ≡ [])
 none-set chosen key [] = (refl, refl)
 none-set chosen key (n ∷ ns) =
     let one = one-none chosen key n.0 n.1 in
@@ -233,7 +248,8 @@ part-other key j (Route f) (Packet g) a b names keys = refl
 part-other key j (Packet f) (Route g) a b names keys = refl
 part-other key j (Packet f) (Packet g) a b names keys = ne_eqb key j keys
 
-segs-fresh : (chosen : List Edit) (key j : ℕ) (n : NewList × List ℕ) (ns : List (NewList × List ℕ)) → key < j → AllByRecursion (λ (m : NewList × List ℕ). n.1 ≢ m.1) ns → AllByRecursion (λ (t : Seg). is_same (part_for key n.0 n.1) t.0 ≡ false) (segs chosen j ns)
+segs-fresh : (chosen : List Edit) (key j : ℕ) (n : NewList × List ℕ) (ns : List (NewList × List ℕ)) → key < j → AllByRecursion (λ (m : NewList × List ℕ). n.1 ≢ m.1) ns →
+    AllByRecursion (λ (t : Seg). is_same (part_for key n.0 n.1) t.0 ≡ false) (segs chosen j ns)
 segs-fresh chosen key j n [] low all = tt
 segs-fresh chosen key j n (m ∷ ns) low all = (part-other key j n.0 m.0 n.1 m.1 all.0 (λ same. omega arith), segs-fresh chosen key (j + 1) n ns (omega arith) all.1)
 

@@ -1,5 +1,6 @@
 -- The lines of a text whose rows have lines put between them.
-use Rattle.std.proofs.Common.{◌≡◌, ℕ, suc, ◌+◌, ◌-◌, ◌<◌, ◌==◌, inl, inr, Bool, true, false, List, [], ◌∷◌, ◌++◌, length, map, refl, sym, ap, subst, ◌∙◌, arith, ⊎_elim, append_assoc, append-nil, length-append, ◌&&◌, if◌then◌else◌}
+use Rattle.std.proofs.Common.{◌≡◌, ℕ, suc, ◌+◌, ◌-◌, ◌<◌, ◌==◌, inl, inr, Bool, true, false, List, [], ◌∷◌, ◌++◌, length, map, refl, sym, ap, subst, ◌∙◌, arith, ⊎_elim, append_assoc}
+use Rattle.std.proofs.Common.{append-nil, length-append, ◌&&◌, if◌then◌else◌}
 use Rattle.std.specs.Prelude.{slice_index}
 use Rattle.std.specs.List.{AllByRecursion, flat_map, enumerate_from}
 use Rattle.std.proofs.lemmas.List.{map-append}
@@ -80,7 +81,9 @@ parted-ended end line is free = by (ends_with_return line) refl is
 
 pub hanging-text : (end line : List ℕ) (lines : List (List ℕ)) → text_of (hanging end line lines) ≡ line ++ flat_map (λ (l : List ℕ). end ++ l) lines
 hanging-text end line [] = append-nil (line ++ [])
-hanging-text end line (next ∷ lines) = ap (λ (t : List ℕ). ((parted end line).line ++ (parted end line).end) ++ t) (hanging-text end next lines) ∙ ap (λ (t : List ℕ). t ++ (next ++ flat_map (λ (l : List ℕ). end ++ l) lines)) (parted-bytes end line) ∙ append_assoc line end (next ++ flat_map (λ (l : List ℕ). end ++ l) lines) ∙ ap (λ (t : List ℕ). line ++ t) (sym (append_assoc end next (flat_map (λ (l : List ℕ). end ++ l) lines)))
+hanging-text end line (next ∷ lines) = ap (λ (t : List ℕ). ((parted end line).line ++ (parted end line).end) ++ t) (hanging-text end next lines)
+    ∙ ap (λ (t : List ℕ). t ++ (next ++ flat_map (λ (l : List ℕ). end ++ l) lines)) (parted-bytes end line) ∙ append_assoc line end (next ++ flat_map (λ (l : List ℕ). end ++ l) lines)
+    ∙ ap (λ (t : List ℕ). line ++ t) (sym (append_assoc end next (flat_map (λ (l : List ℕ). end ++ l) lines)))
 
 -- a line without a carriage return is left as it is
 pub hung-plain : (end line : List ℕ) (lines : List (List ℕ)) → HasNoReturn line → hung_line end line lines ≡ line
@@ -89,7 +92,8 @@ hung-plain end line (next ∷ lines) plain = ap (λ (l : Ended). l.line) (parted
 
 pub hanging-lines : (end line : List ℕ) (lines : List (List ℕ)) → AllByRecursion IsFit lines → map (λ (l : Ended). l.line) (hanging end line lines) ≡ hung_line end line lines ∷ lines
 hanging-lines end line [] fit = refl
-hanging-lines end line (next ∷ lines) fit = ap (λ (ls : List (List ℕ)). (parted end line).line ∷ ls) (hanging-lines end next lines fit.1 ∙ ap (λ (l : List ℕ). l ∷ lines) (hung-plain end next lines fit.0.no_return))
+hanging-lines end line (next ∷ lines) fit = ap (λ (ls : List (List ℕ)). (parted end line).line ∷ ls)
+    (hanging-lines end next lines fit.1 ∙ ap (λ (l : List ℕ). l ∷ lines) (hung-plain end next lines fit.0.no_return))
 
 pub hanging-alone : (end line : List ℕ) → IsFree line → 0 < length line → AreEnded (hanging end line [])
 hanging-alone end line free some = inr (record { free = free; none = refl; some = some })
@@ -147,7 +151,8 @@ module _ (text end : List ℕ) (before : List (ℕ × List ℕ)) (numbers : List
       ap (λ (t : List ℕ). front ++ t) (hanging-text end (bytes_at row) (of_number row.0 after)) ∙
       sym (append_assoc front (bytes_at row) (flat_map (λ (l : List ℕ). end ++ l) (of_number row.0 after))) ∙
       ap (λ (t : List ℕ). (front ++ bytes_at row) ++ t) (sym tail) ∙
-      ap (λ (t : List ℕ). t ++ following end row.1.end (of_number row.0 after)) (sym (append-nil (front ++ bytes_at row)) ∙ ap (λ (t : List ℕ). (front ++ bytes_at row) ++ t) (sym (fits.hanging_row e).0))
+      ap (λ (t : List ℕ). t ++ following end row.1.end (of_number row.0 after))
+      (sym (append-nil (front ++ bytes_at row)) ∙ ap (λ (t : List ℕ). (front ++ bytes_at row) ++ t) (sym (fits.hanging_row e).0))
   text-by false row e fits =
       let tail : following end row.1.end (of_number row.0 after) ≡ ended end (of_number row.0 after) =
       ap (λ (b : Bool). if b then flat_map (λ (l : List ℕ). end ++ l) (of_number row.0 after) else ended end (of_number row.0 after)) e in
@@ -160,7 +165,8 @@ module _ (text end : List ℕ) (before : List (ℕ × List ℕ)) (numbers : List
       ap (λ (t : List ℕ). ((front ++ bytes_at row) ++ end_of text row.1) ++ t) (sym tail)
 
   -- the line of a row that has an end, and of one that has none
-  line-by : (b : Bool) (row : ℕ × Line) → (row.1.end == 0) ≡ b → row_line text end row.1 (of_number row.0 numbers) (of_number row.0 after) ≡ if b then hung_line end (bytes_at row) (of_number row.0 after) else bytes_at row
+  line-by : (b : Bool) (row : ℕ × Line) → (row.1.end == 0) ≡ b →
+      row_line text end row.1 (of_number row.0 numbers) (of_number row.0 after) ≡ if b then hung_line end (bytes_at row) (of_number row.0 after) else bytes_at row
   line-by b row e = ap (λ (c : Bool). if c then hung_line end (bytes_at row) (of_number row.0 after) else bytes_at row) e
 
   lines-by : (b : Bool) (row : ℕ × Line) → (row.1.end == 0) ≡ b → FitsHere row → map (λ (l : Ended). l.line) (around_by b row) ≡ lines_for row
@@ -185,15 +191,18 @@ module _ (text end : List ℕ) (before : List (ℕ × List ℕ)) (numbers : List
   all-append (x ∷ xs) ys one two = (one.0, all-append xs ys one.1 two)
 
   front-ended : (row : ℕ × Line) → (row.1.end == 0) ≡ false → FitsHere row → AllByRecursion IsEnded (ended_around end (row_at row) (of_number row.0 before) (of_number row.0 after))
-  front-ended row e fits = all-append (all_ended end (of_number row.0 before)) (row_at row ∷ all_ended end (of_number row.0 after)) (ended-all end (of_number row.0 before) is fits.before_fit) (fits.ended_row e, ended-all end (of_number row.0 after) is fits.after_fit)
+  front-ended row e fits = all-append (all_ended end (of_number row.0 before)) (row_at row ∷ all_ended end (of_number row.0 after))
+      (ended-all end (of_number row.0 before) is fits.before_fit) (fits.ended_row e, ended-all end (of_number row.0 after) is fits.after_fit)
 
   -- a row with an end before others
   join-ended : (n : ℕ) (row : Line) (rows : List Line) → (row.end == 0) ≡ false → FitsHere (n, row) → Become (n + 1) rows → Become n (row ∷ rows)
   join-ended n row rows e fits rest = record {
     lines = around_by false (n, row) ++ rest.lines;
     are = ended-append (around_by false (n, row)) rest.lines (front-ended (n, row) e fits) rest.are;
-    text_is = text-append (around_by false (n, row)) rest.lines ∙ ap (λ (t : List ℕ). t ++ text_of rest.lines) (text-by false (n, row) e fits) ∙ ap (λ (t : List ℕ). patched_row text end before numbers after (n, row) ++ t) rest.text_is;
-    lines_are = bytes-append (around_by false (n, row)) rest.lines ∙ ap (λ (ls : List (List ℕ)). ls ++ map (λ (l : Ended). l.line) rest.lines) (lines-by false (n, row) e fits) ∙ ap (λ (ls : List (List ℕ)). lines_for (n, row) ++ ls) rest.lines_are;
+    text_is = text-append (around_by false (n, row)) rest.lines ∙ ap (λ (t : List ℕ). t ++ text_of rest.lines) (text-by false (n, row) e fits)
+        ∙ ap (λ (t : List ℕ). patched_row text end before numbers after (n, row) ++ t) rest.text_is;
+    lines_are = bytes-append (around_by false (n, row)) rest.lines ∙ ap (λ (ls : List (List ℕ)). ls ++ map (λ (l : Ended). l.line) rest.lines) (lines-by false (n, row) e fits)
+        ∙ ap (λ (ls : List (List ℕ)). lines_for (n, row) ++ ls) rest.lines_are;
   }
 
   -- a last row with no end

@@ -44,17 +44,22 @@ module _ (text end : List ℕ) (before : List (ℕ × List ℕ)) (numbers : List
       (let b = h.lines_before in let l = h.line in let a = h.lines_after in λ i. b i ++ (l i ∷ a i)) ∙
       append_assoc (flat_map chunk_lines s.tops) (bytes_of s.entries) (s.line ∷ bytes_of s.after)
 
-  sites-lines : (n : ℕ) (rows : List Line) (ds : List FileCommand) → HaveSites text end before numbers after put n rows ds → flat_map (lines_for text end before numbers after is) (enumerate_from n rows) ≡ new_lines put n (map shown rows) ds
+  sites-lines : (n : ℕ) (rows : List Line) (ds : List FileCommand) → HaveSites text end before numbers after put n rows ds →
+      flat_map (lines_for text end before numbers after is) (enumerate_from n rows) ≡ new_lines put n (map shown rows) ds
   sites-lines n [] ds have = refl
   sites-lines n (row ∷ rows) [] have =
       let rest = sites-lines (n + 1) rows [] have.1 ∙ none-new (n + 1) (map shown rows) in
       (let first = none-here n row have.0 in λ i. first i ++ rest i)
   sites-lines n (row ∷ rows) (c ∷ ds) have = by (c.line == n) have (sites-lines (n + 1) rows ds) (sites-lines (n + 1) rows (c ∷ ds))
     where
-      by : (b : Bool) → MatchBool b (HasSite text end before numbers after (put c) n row × HaveSites text end before numbers after put (n + 1) rows ds) (HasNone text before numbers after n row × HaveSites text end before numbers after put (n + 1) rows (c ∷ ds)) →
-          (HaveSites text end before numbers after put (n + 1) rows ds → flat_map (lines_for text end before numbers after is) (enumerate_from (n + 1) rows) ≡ new_lines put (n + 1) (map shown rows) ds) →
-          (HaveSites text end before numbers after put (n + 1) rows (c ∷ ds) → flat_map (lines_for text end before numbers after is) (enumerate_from (n + 1) rows) ≡ new_lines put (n + 1) (map shown rows) (c ∷ ds)) →
-          flat_map (lines_for text end before numbers after is) (enumerate_from n (row ∷ rows)) ≡ cond b (site_lines (put c) ++ new_lines put (n + 1) (map shown rows) ds) (shown row ∷ new_lines put (n + 1) (map shown rows) (c ∷ ds))
+      by : (b : Bool) → MatchBool b (HasSite text end before numbers after (put c) n row × HaveSites text end before numbers after put (n + 1) rows ds)
+          (HasNone text before numbers after n row × HaveSites text end before numbers after put (n + 1) rows (c ∷ ds)) →
+          (HaveSites text end before numbers after put (n + 1) rows ds →
+          flat_map (lines_for text end before numbers after is) (enumerate_from (n + 1) rows) ≡ new_lines put (n + 1) (map shown rows) ds) →
+          (HaveSites text end before numbers after put (n + 1) rows (c ∷ ds) →
+          flat_map (lines_for text end before numbers after is) (enumerate_from (n + 1) rows) ≡ new_lines put (n + 1) (map shown rows) (c ∷ ds)) →
+          flat_map (lines_for text end before numbers after is) (enumerate_from n (row ∷ rows)) ≡ cond b (site_lines (put c) ++ new_lines put (n + 1) (map shown rows) ds)
+          (shown row ∷ new_lines put (n + 1) (map shown rows) (c ∷ ds))
       by true h one two = (let first = site-here n row (put c) h.0 in let rest = one h.1 in λ i. first i ++ rest i)
       by false h one two = (let first = none-here n row h.0 in let rest = two h.1 in λ i. first i ++ rest i)
 

@@ -21,7 +21,8 @@ pub plain-reads : (within : BlockKind) (command : Command) → IsReadAs within c
 plain-reads within command line = subst (λ (ws : List (List ℕ)). ReadBy (is_extended_block within) ws (rows within) command) (sym line.written.words) line.reads
 
 -- a line of a list, and one of a packet list's block
-pub plain-single : (name : List ℕ) (command : Command) → IsReadAs kinds.Top command → IsSingle (plain_line kinds.Top command) → (part_in 0 command ≡ Lines name) ⊎ (part_in 0 command ≡ PrefixLines name) → IsSingleLine (written kinds.Top command)
+pub plain-single : (name : List ℕ) (command : Command) → IsReadAs kinds.Top command → IsSingle (plain_line kinds.Top command) →
+    (part_in 0 command ≡ Lines name) ⊎ (part_in 0 command ≡ PrefixLines name) → IsSingleLine (written kinds.Top command)
 plain-single name command line single part = record { single = single; reads = plain-reads kinds.Top command line; name = name; part = part }
 
 pub plain-entry : (order : Option ℕ) (entry : PacketText) → IsReadAs kinds.Extended (commands.Entry order entry) → IsBlockLine kinds.Extended (written kinds.Extended (commands.Entry order entry))

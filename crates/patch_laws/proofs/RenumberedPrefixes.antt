@@ -30,7 +30,8 @@ prefixes-renumbered text lines cs c row list n m entry span site h top says sequ
     let r : IsRewritten text h.place row 4 span (decimal m) = a-word-replaced text lines h.place row 4 span (decimal m) h.are h.cut h.at h.says at plain (inl (omega arith)) in
     let shown : get_or (text_lines text) h.place [] ≡ part text row.span =
     ap (λ (ls : List (List ℕ)). get_or ls h.place []) (sym h.are.texts) ∙
-    get_or_from_slice_get (map (λ (l : Line). part text l.span) lines.rows) h.place (part text row.span) [] (slice_get-map (λ (l : Line). part text l.span) lines.rows h.place ∙ ap (option_map (λ (l : Line). part text l.span)) h.at) in
+    get_or_from_slice_get (map (λ (l : Line). part text l.span) lines.rows) h.place (part text row.span) []
+    (slice_get-map (λ (l : Line). part text l.span) lines.rows h.place ∙ ap (option_map (λ (l : Line). part text l.span)) h.at) in
     let alike : kind (part text row.span) ≡ kind (rewritten text row span (decimal m)) = ap kind (sym shown) ∙ sym (kind-there (text_lines text) h.place r.may.within r.may.outside) ∙ r.may.alike in
     let old : map (part text) row.words ≡ words (part text row.span) = (h.are.rows h.place row h.at).texts in
     let now : words site.line ≡ codes "ip" ∷ codes "prefix-list" ∷ sequenced.name ∷ codes "seq" ∷ decimal m ∷ sequenced.rest =
@@ -70,6 +71,7 @@ numbers-are-words text row = (
   λ sequenced. span-there text row.words 4 sequenced.word (ap (λ (ws : List (List ℕ)). slice_get ws 4) sequenced.are),
 )
   where
-    first : (ws : List (List ℕ)) → map (part text) row.words ≡ ws → (n : ℕ) (entry : PacketText) → ReadBy true ws (rows kinds.Extended) (commands.Entry (Some n) entry) → (span : Span) × (slice_get row.words 0 ≡ Some span)
+    first : (ws : List (List ℕ)) → map (part text) row.words ≡ ws → (n : ℕ) (entry : PacketText) → ReadBy true ws (rows kinds.Extended) (commands.Entry (Some n) entry) →
+        (span : Span) × (slice_get row.words 0 ≡ Some span)
     first [] is n entry reads = absurd (none-some reads.rule reads.first)
     first (w ∷ ws) is n entry reads = span-there text row.words 0 w (ap (λ (l : List (List ℕ)). slice_get l 0) is)

@@ -16,15 +16,18 @@ use Rattle.line_edit_laws.proofs.Shifts.{RowOf}
 -- what a top line leaves open, whether it says something and whether it heads a block, by its words
 abbrev inert_by : Bool → Bool → Bool → Bool
 inert_by mark banner opens =
-    is_inert (if mark then words_kind false ((33 ∷ []) ∷ []) else (if banner then top_kind (codes "banner" ∷ []) else (if opens then top_kind (codes "router" ∷ []) else top_kind (codes "hostname" ∷ []))))
+    is_inert (if mark then words_kind false ((33 ∷ []) ∷ []) else
+    (if banner then top_kind (codes "banner" ∷ []) else (if opens then top_kind (codes "router" ∷ []) else top_kind (codes "hostname" ∷ []))))
 
 abbrev head_by : Bool → Bool → Bool → Bool
 head_by mark banner opens =
-    is_head (if mark then words_kind false ((33 ∷ []) ∷ []) else (if banner then top_kind (codes "banner" ∷ []) else (if opens then top_kind (codes "router" ∷ []) else top_kind (codes "hostname" ∷ []))))
+    is_head (if mark then words_kind false ((33 ∷ []) ∷ []) else
+    (if banner then top_kind (codes "banner" ∷ []) else (if opens then top_kind (codes "router" ∷ []) else top_kind (codes "hostname" ∷ []))))
 
 abbrev block_by : ℕ → ℕ → Bool → Bool → Bool → ℕ
 block_by number block mark banner opens =
-    block_after (if mark then words_kind false ((33 ∷ []) ∷ []) else (if banner then top_kind (codes "banner" ∷ []) else (if opens then top_kind (codes "router" ∷ []) else top_kind (codes "hostname" ∷ [])))) number block
+    block_after (if mark then words_kind false ((33 ∷ []) ∷ []) else
+    (if banner then top_kind (codes "banner" ∷ []) else (if opens then top_kind (codes "router" ∷ []) else top_kind (codes "hostname" ∷ [])))) number block
 
 no-top : (number block : ℕ) (mark banner opens : Bool) → inert_by mark banner opens ≡ false → head_by mark banner opens ≡ false → block_by number block mark banner opens ≢ 0 → ⊥
 no-top number block true banner opens says head some = true≢false says
@@ -33,7 +36,8 @@ no-top number block false false true says head some = true≢false head
 no-top number block false false false says head some = some refl
 
 -- a line that says something, heads no block and leaves one open is indented
-indented-by : (indented : Bool) (ws : List (List ℕ)) (number block : ℕ) → is_inert (words_kind indented ws) ≡ false → is_head (words_kind indented ws) ≡ false → block_after (words_kind indented ws) number block ≢ 0 → indented ≡ true
+indented-by : (indented : Bool) (ws : List (List ℕ)) (number block : ℕ) → is_inert (words_kind indented ws) ≡ false → is_head (words_kind indented ws) ≡ false →
+    block_after (words_kind indented ws) number block ≢ 0 → indented ≡ true
 indented-by true ws number block says head some = refl
 indented-by false [] number block says head some = absurd (true≢false says)
 indented-by false (w ∷ ws) number block says head some = absurd (no-top number block (is_mark w) (is_banner (w ∷ ws)) (opens_block (w ∷ ws)) says head some)

@@ -24,13 +24,15 @@ number-step false line rest = refl
 pub of-number-here : (number k : ℕ) (lines : List Command) → number ≡ k → of_number k (all_at number lines) ≡ lines
 of-number-here number k [] same = refl
 of-number-here number k (line ∷ lines) same =
-    number-step (number == k) line (of_number k (all_at number lines)) ∙ ap (λ (b : Bool). if b then line ∷ of_number k (all_at number lines) else of_number k (all_at number lines)) (eq-eqb number k same) ∙
+    number-step (number == k) line (of_number k (all_at number lines))
+    ∙ ap (λ (b : Bool). if b then line ∷ of_number k (all_at number lines) else of_number k (all_at number lines)) (eq-eqb number k same) ∙
     ap (λ (ls : List Command). line ∷ ls) (of-number-here number k lines same)
 
 pub of-number-other : (number k : ℕ) (lines : List Command) → number ≢ k → of_number k (all_at number lines) ≡ []
 of-number-other number k [] other = refl
 of-number-other number k (line ∷ lines) other =
-    number-step (number == k) line (of_number k (all_at number lines)) ∙ ap (λ (b : Bool). if b then line ∷ of_number k (all_at number lines) else of_number k (all_at number lines)) (ne_eqb number k other) ∙
+    number-step (number == k) line (of_number k (all_at number lines))
+    ∙ ap (λ (b : Bool). if b then line ∷ of_number k (all_at number lines) else of_number k (all_at number lines)) (ne_eqb number k other) ∙
     of-number-other number k lines other
 
 -- only a last row has no end
@@ -56,7 +58,8 @@ row-facts text (row ∷ []) are = (are, tt)
 row-facts text (row ∷ next ∷ rows) are = (inl are.0, row-facts text (next ∷ rows) are.1)
 
 -- what ends the lines of a text
-pub line-end : (text : List ℕ) (rows : List Line) → ((k : ℕ) (row : Line) → slice_get rows k ≡ Some row → LiesWithin text row) → AllByRecursion (λ (row : Line). IsEnded (ended_row text row) ⊎ IsUnended (ended_row text row)) rows → IsLineEnd (line_end text rows)
+pub line-end : (text : List ℕ) (rows : List Line) → ((k : ℕ) (row : Line) → slice_get rows k ≡ Some row → LiesWithin text row) →
+    AllByRecursion (λ (row : Line). IsEnded (ended_row text row) ⊎ IsUnended (ended_row text row)) rows → IsLineEnd (line_end text rows)
 line-end text [] within facts = inl refl
 line-end text (row ∷ rows) within facts = by (row.end == 0) refl
   where

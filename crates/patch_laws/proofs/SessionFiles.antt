@@ -30,7 +30,8 @@ module _ (doc : Document) (files news : List (List ℕ)) (built : Built) (was : 
     pub are : AreLinesOf old lines
     pub is : new ≡ patched_file built chosen router old lines (places_of config)
 
-  pub file-facts : (router : ℕ) (config : Config) (old new : List ℕ) → slice_get was.network.configs router ≡ Some config → slice_get files router ≡ Some old → slice_get news router ≡ Some new → FileFacts router config old new
+  pub file-facts : (router : ℕ) (config : Config) (old new : List ℕ) → slice_get was.network.configs router ≡ Some config → slice_get files router ≡ Some old →
+      slice_get news router ≡ Some new → FileFacts router config old new
   file-facts router config old new at_c at_old at_new =
       let (lines, at_lines, are) = AllZip-right AreLinesOf files built.lines was.lines router old at_old in
       let at_places : slice_get built.places router ≡ Some (places_of config) =
@@ -38,6 +39,7 @@ module _ (doc : Document) (files news : List (List ℕ)) (built : Built) (was : 
       record {
         lines = lines;
         are = are;
-        is = both-some (slice_get built.lines router) (slice_get built.places router) (λ (l : Lines) (own : Places). new ≡ patched_file built chosen router old l own) lines (places_of config) at_lines at_places
+        is = both-some (slice_get built.lines router) (slice_get built.places router) (λ (l : Lines) (own : Places). new ≡ patched_file built chosen router old l own) lines
+            (places_of config) at_lines at_places
             (patched.each router old new at_old at_new);
       }

@@ -58,7 +58,8 @@ same_falls l m same line f =
         at_place = first.1;
         later = second.0;
         at_next = second.1;
-        falls = subst (λ (c : Command). rises (entry_number first.0.value) (entry_number c) ≡ false) two (subst (λ (c : Command). rises (entry_number c) (entry_number f.later.value) ≡ false) one f.falls);
+        falls = subst (λ (c : Command). rises (entry_number first.0.value) (entry_number c) ≡ false) two
+            (subst (λ (c : Command). rises (entry_number c) (entry_number f.later.value) ≡ false) one f.falls);
         is_line = refl;
       },
     )

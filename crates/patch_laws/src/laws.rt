@@ -1,4 +1,8 @@
 //! Laws over the definitions alone: each is the contract of a function that does nothing.
+ghost use Rattle.patch_laws.specs.EditSiteLaws.{CommandsGrowByEdits, CommandsHaveListLines};
+ghost use Rattle.patch_laws.specs.EditSiteLaws.{EditSitesAreGood, EditSitesAreThere};
+ghost use Rattle.patch_laws.specs.EditSiteLaws.{EditedFilesAreFiles, EditedFilesAreSited};
+ghost use Rattle.patch_laws.specs.EditSiteLaws.{EditedFilesHaveTheNetwork, EditedTextsCanBePatched};
 ghost use Rattle.patch_laws.specs.EndLines.{FacesGrow, GroupLinesAreFit, ProcessLinesAreRead};
 ghost use Rattle.patch_laws.specs.EndLines.{ProcessesGrow};
 ghost use Rattle.patch_laws.specs.EntrySites.{BlockEntriesAreRead, EntriesAreRenumbered};
@@ -7,14 +11,10 @@ ghost use Rattle.patch_laws.specs.EntrySites.{PrefixLinesAreRenumbered, NumbersA
 ghost use Rattle.patch_laws.specs.FaceBlocks.{FacesHaveBlocks};
 ghost use Rattle.patch_laws.specs.Files.{FilesHaveTheNetwork, SitedFilesAreAfter};
 ghost use Rattle.patch_laws.specs.Files.{SitedFilesHaveTheNetwork};
-ghost use Rattle.patch_laws.specs.EditSiteLaws.{CommandsGrowByEdits, CommandsHaveListLines};
-ghost use Rattle.patch_laws.specs.EditSiteLaws.{EditSitesAreGood, EditSitesAreThere};
-ghost use Rattle.patch_laws.specs.EditSiteLaws.{EditedFilesAreFiles, EditedFilesAreSited};
-ghost use Rattle.patch_laws.specs.EditSiteLaws.{EditedFilesHaveTheNetwork, EditedTextsCanBePatched};
-ghost use Rattle.patch_laws.specs.ListsGrow.{ListsGrow};
 ghost use Rattle.patch_laws.specs.Laws.{GrownSettingsAreAfter, NewListsAreChunks};
 ghost use Rattle.patch_laws.specs.Laws.{NewListsHaveTheirLines, NewListsSetThemselves};
 ghost use Rattle.patch_laws.specs.Laws.{PatchedTextsHaveSites, SessionFilesHaveTheNetwork};
+ghost use Rattle.patch_laws.specs.ListsGrow.{ListsGrow};
 
 /// Files with lines at the ends of their processes that turn sessions have the network after the
 /// edits.

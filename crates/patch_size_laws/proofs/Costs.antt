@@ -7,6 +7,7 @@ use Rattle.std.proofs.lemmas.Bool.{leb-true, and_parts}
 use Rattle.std.proofs.lemmas.List.Elements.{All-contains}
 use Rattle.std.proofs.lemmas.Option.{none-some, same_Some}
 use Rattle.arc_base.specs.declared.prefix.Prefix.{Prefix}
+use Rattle.arc_base.proofs.Zips.{AllByRecursion-append}
 use Rattle.net_model.specs.declared.lists.PacketList.{PacketList}
 use Rattle.net_model.specs.declared.lists.RouteList.{RouteList}
 use Rattle.net_model.specs.declared.policies.Class.{Class}
@@ -33,18 +34,21 @@ use Rattle.edit_list.specs.declared.list_kinds.NewList.TheVariants.{Route, Packe
 use Rattle.edit_list.specs.After.{class_entry, every_packet, opposite_packet_entry, opposite_route_entry}
 use Rattle.edit_list.specs.Changes.{list_classes, list_prefixes, new_classes, new_prefixes, new_route_change, packet_list_change, route_list_change}
 use Rattle.edit_list.specs.NewLists.{named_lists, new_lists_of, new_names_of}
-use Rattle.arc_base.specs.Numbered.{if_number}
-use Rattle.edit_list.proofs.Counts.{few_picked}
+use Rattle.arc_base.specs.Numbered.{of_number}
 use Rattle.line_patcher.specs.declared.additions.NewNumber.{NewNumber}
 use Rattle.line_patcher.specs.Additions.{commands_after, commands_before, lines_after, lines_before, numbers_at}
-use Rattle.line_patcher.specs.EntryLines.{at_front, class_command, class_commands, edited_packet_lists, edited_route_lists, first_line, is_packet_form, new_number, new_numbers, order_at, packet_command, packet_list_entries, packet_list_numbers, packet_place, prefix_command, prefix_commands, route_list_entries, route_list_numbers, route_place}
-use Rattle.line_patcher.specs.NewListLines.{deny_class, deny_prefix, face_places, filter_command, group_command, new_entries, new_entry, new_list_commands, new_packet_commands, new_route_commands, permit_all}
+use Rattle.line_patcher.specs.EntryLines.{at_front, class_command, edited_packet_lists, edited_route_lists, first_line, is_packet_form, list_entries, list_numbers, new_number, new_numbers}
+use Rattle.line_patcher.specs.EntryLines.{order_at, packet_command, packet_list_entries, packet_list_numbers, packet_place, prefix_command, route_list_entries, route_list_numbers}
+use Rattle.line_patcher.specs.EntryLines.{route_place}
+use Rattle.line_patcher.specs.NewListLines.{deny_class, deny_prefix, face_places, filter_command, group_command, new_entries, new_entry, new_list_commands, new_packet_commands}
+use Rattle.line_patcher.specs.NewListLines.{new_route_commands, permit_all}
 use Rattle.line_patcher.specs.SessionLines.{session_command, turned_faces, turning_command}
 use Rattle.line_patcher.specs.Written.{line_of}
+use Rattle.line_patcher.proofs.Tables.{few_put}
 use Rattle.settings_edit_laws.specs.Premises.{IsWritable}
 use Rattle.patch_laws.specs.NewListSites.{IsNewName}
 use Rattle.patch_laws.proofs.SessionReads.{session_in}
-use Rattle.patch_size_laws.proofs.Keyed.{total, total-append, total-flat, total-map, total-le, total-times, total-ones, picked-few, zip-few, flat-all, both-all}
+use Rattle.patch_size_laws.proofs.Keyed.{total, total-append, total-flat, total-map, total-le, total-times, total-ones, picked-few, zip-few, flat-all}
 use Rattle.patch_size_laws.proofs.LineSizes.{IsSmallOrder, entry-line-few, list-line-few, prefix-line-few, list-head-few, group-few, neighbor-list-few, passive-few, neighbor-few}
 use Rattle.patch_size_laws.proofs.RowSizes.{cost_of, put, IsSmall}
 
@@ -54,7 +58,8 @@ counted-few : {X : Type 0} (h : ℕ × X → ℕ) (c n most : ℕ) (xs : List X)
 counted-few h c n most [] each room = omega arith
 counted-few h c n most (x ∷ xs) each room = omega (arith, each (n, x) (omega (arith, room)), counted-few h c (n + 1) most xs each (omega (arith, room)))
 
-counted-all : {X Y : Type 0} (P : Y → Type 0) (f : ℕ × X → Y) (n most : ℕ) (xs : List X) → ((e : ℕ × X) → e.0 ≤ most → P (f e)) → n + length xs ≤ most + 1 → AllByRecursion P (map f (enumerate_from n xs))
+counted-all : {X Y : Type 0} (P : Y → Type 0) (f : ℕ × X → Y) (n most : ℕ) (xs : List X) → ((e : ℕ × X) → e.0 ≤ most → P (f e)) → n + length xs ≤ most + 1 →
+    AllByRecursion P (map f (enumerate_from n xs))
 counted-all P f n most [] each room = tt
 counted-all P f n most (x ∷ xs) each room = (each (n, x) (omega (arith, room)), counted-all P f (n + 1) most xs each (omega (arith, room)))
 
@@ -109,15 +114,6 @@ weight net chosen router =
     (total (λ id. length (list_prefixes chosen id)) (edited_route_lists net chosen router) + total (new_size chosen) (new_lists_of net chosen router)))
 
 module _ (net : Network) (valid : IsValid net) (writable : IsWritable net) (chosen : List Edit) (few : length chosen ≤ 8192) where
-  pub classes-few : (id : ℕ) → length (list_classes chosen id) ≤ length chosen
-  classes-few id = omega (arith, few_picked (if_number id) (filter_map packet_list_change chosen), few_picked packet_list_change chosen)
-
-  pub prefixes-few : (id : ℕ) → length (list_prefixes chosen id) ≤ length chosen
-  prefixes-few id = omega (arith, few_picked (if_number id) (filter_map route_list_change chosen), few_picked route_list_change chosen)
-
-  new-prefixes-few : (face : ℕ) → length (new_prefixes chosen face) ≤ length chosen
-  new-prefixes-few face = omega (arith, few_picked (if_number face) (filter_map new_route_change chosen), few_picked new_route_change chosen)
-
   packet-name : (id : ℕ) (list : PacketList) → slice_get net.packet_lists id ≡ Some list → length list.name ≤ 64
   packet-name id list at = (All-contains (IsValidPacketList net) net.packet_lists list valid.packet_lists (item_at_place net.packet_lists id list at)).name.few
 
@@ -129,7 +125,8 @@ module _ (net : Network) (valid : IsValid net) (writable : IsWritable net) (chos
   session-few : (face : ℕ) (command : Command) → session_command net face ≡ Some command → price command ≤ 512
   session-few face command is = of-row (slice_get net.faces face) refl is
     where
-      of-session : (o : Option SessionRow) → ((s : SessionRow) → o ≡ Some s → s.peer < 2 ^ 32) → option_map (λ (s : SessionRow). commands.NeighborDown s.peer (not s.down)) o ≡ Some command → price command ≤ 512
+      of-session : (o : Option SessionRow) → ((s : SessionRow) → o ≡ Some s → s.peer < 2 ^ 32) →
+          option_map (λ (s : SessionRow). commands.NeighborDown s.peer (not s.down)) o ≡ Some command → price command ≤ 512
       of-session None small e = absurd (none-some command e)
       of-session (Some s) small e = omega (arith, ap price (same_Some (commands.NeighborDown s.peer (not s.down)) command e), neighbor-few s.peer (not s.down) (small s refl))
 
@@ -137,7 +134,8 @@ module _ (net : Network) (valid : IsValid net) (writable : IsWritable net) (chos
       of-protocol Ospf row short e = omega (arith, ap price (same_Some (commands.Passive (not row.passive) (Some row.name)) command e), passive-few (not row.passive) row.name short)
       of-protocol Bgp row short e = of-session (session_at net (record { 0 = face })) (λ s at. writable.peers s (session_in (λ (t : SessionRow). t.face.0 == face) net.sessions s at)) e
 
-      of-row : (o : Option FaceRow) → slice_get net.faces face ≡ o → option_and_then (λ (row : FaceRow). turning_command net.protocol row (session_at net (record { 0 = face }))) o ≡ Some command → price command ≤ 512
+      of-row : (o : Option FaceRow) → slice_get net.faces face ≡ o →
+          option_and_then (λ (row : FaceRow). turning_command net.protocol row (session_at net (record { 0 = face }))) o ≡ Some command → price command ≤ 512
       of-row None at e = absurd (none-some command e)
       of-row (Some row) at e = of-protocol net.protocol row (leb-true (length row.name) 64 (and_parts _ _ (writable.faces face row at)).0) e
 
@@ -165,47 +163,40 @@ module _ (net : Network) (valid : IsValid net) (writable : IsWritable net) (chos
 
   prefix-line-cost : (place : ListPlace) (list : RouteList) (e : ℕ × Prefix) → length list.name ≤ 64 → e.0 ≤ 8192 → price (prefix_command place list e) ≤ 512
   prefix-line-cost place list e short low =
-      omega (arith, prefix-line-few list.name (order_at place 5 e.0) (route_text (opposite_route_entry list.entries e.1).permit e.1) short (order-small place.numbered 5 e.0 (omega arith) low) e.1.length e.1.length)
+      omega (
+        arith,
+        prefix-line-few list.name (order_at place 5 e.0) (route_text (opposite_route_entry list.entries e.1).permit e.1) short
+            (order-small place.numbered 5 e.0 (omega arith) low) e.1.length e.1.length,
+      )
+
+  entries-few : {L X : Type 0} (lists : List L) (place_of : L → Option ListPlace) (command : ListPlace → L → ℕ × X → Command) (change : Edit → Option (ℕ × X)) →
+      ((id : ℕ) (list : L) (place : ListPlace) (e : ℕ × X) → slice_get lists id ≡ Some list → e.0 ≤ 8192 → price (command place list e) ≤ 512) →
+      (id : ℕ) → placed (list_entries lists place_of command change chosen id) ≤ 512 * length (of_number id (filter_map change chosen))
+  entries-few {L} {X} lists place_of command change each id = of-list (of_number id (filter_map change chosen)) (slice_get lists id) (omega (arith, few_put change chosen id, few)) refl
+    where
+      of-place : (things : List X) (list : L) (o : Option ListPlace) → length things ≤ 8192 → slice_get lists id ≡ Some list →
+          placed (option_map_or (λ place. at_front place (map (command place list) (enumerate_from 1 things))) o []) ≤ 512 * length things
+      of-place things list None low at = omega arith
+      of-place things list (Some place) low at =
+          omega (
+            arith,
+            all-placed (first_line place) (map (command place list) (enumerate_from 1 things)),
+            total-map price (command place list) (enumerate_from 1 things),
+            counted-few (λ e. price (command place list e)) 512 1 8192 things (λ e within. each id list place e at within) (omega (arith, low)),
+          )
+
+      of-list : (things : List X) (o : Option L) → length things ≤ 8192 → slice_get lists id ≡ o →
+          placed (option_map_or (λ list. option_map_or (λ place. at_front place (map (command place list) (enumerate_from 1 things))) (place_of list) []) o []) ≤ 512 * length things
+      of-list things None low at = omega arith
+      of-list things (Some list) low at = of-place things list (place_of list) low at
 
   packet-entries-few : (own : Places) (id : ℕ) → placed (packet_list_entries net own chosen id) ≤ 512 * length (list_classes chosen id)
-  packet-entries-few own id = of-list (slice_get net.packet_lists id) refl
-    where
-      of-place : (list : PacketList) (o : Option ListPlace) → length list.name ≤ 64 →
-          placed (option_map_or (λ place. at_front place (class_commands place list (list_classes chosen id))) o []) ≤ 512 * length (list_classes chosen id)
-      of-place list None short = omega arith
-      of-place list (Some place) short =
-          let classes : List Class = list_classes chosen id in
-          omega (
-            arith,
-            all-placed (first_line place) (class_commands place list classes),
-            total-map price (class_command place list) (enumerate_from 1 classes),
-            counted-few (λ e. price (class_command place list e)) 512 1 8192 classes (λ e low. class-line-few place list e short low) (omega (arith, classes-few id, few)),
-          )
-
-      of-list : (o : Option PacketList) → slice_get net.packet_lists id ≡ o →
-          placed (option_map_or (λ list. option_map_or (λ place. at_front place (class_commands place list (list_classes chosen id))) (packet_place own list.name) []) o []) ≤ 512 * length (list_classes chosen id)
-      of-list None at = omega arith
-      of-list (Some list) at = of-place list (packet_place own list.name) (packet-name id list at)
+  packet-entries-few own = entries-few net.packet_lists (λ (list : PacketList). packet_place own list.name) class_command packet_list_change
+      (λ id list place e at low. class-line-few place list e (packet-name id list at) low)
 
   route-entries-few : (own : Places) (id : ℕ) → placed (route_list_entries net own chosen id) ≤ 512 * length (list_prefixes chosen id)
-  route-entries-few own id = of-list (slice_get net.route_lists id) refl
-    where
-      of-place : (list : RouteList) (o : Option ListPlace) → length list.name ≤ 64 →
-          placed (option_map_or (λ place. at_front place (prefix_commands place list (list_prefixes chosen id))) o []) ≤ 512 * length (list_prefixes chosen id)
-      of-place list None short = omega arith
-      of-place list (Some place) short =
-          let prefixes : List Prefix = list_prefixes chosen id in
-          omega (
-            arith,
-            all-placed (first_line place) (prefix_commands place list prefixes),
-            total-map price (prefix_command place list) (enumerate_from 1 prefixes),
-            counted-few (λ e. price (prefix_command place list e)) 512 1 8192 prefixes (λ e low. prefix-line-cost place list e short low) (omega (arith, prefixes-few id, few)),
-          )
-
-      of-list : (o : Option RouteList) → slice_get net.route_lists id ≡ o →
-          placed (option_map_or (λ list. option_map_or (λ place. at_front place (prefix_commands place list (list_prefixes chosen id))) (route_place own list.name) []) o []) ≤ 512 * length (list_prefixes chosen id)
-      of-list None at = omega arith
-      of-list (Some list) at = of-place list (route_place own list.name) (route-name id list at)
+  route-entries-few own = entries-few net.route_lists (λ (list : RouteList). route_place own list.name) prefix_command route_list_change
+      (λ id list place e at low. prefix-line-cost place list e (route-name id list at) low)
 
   -- ---- new lists
 
@@ -216,7 +207,8 @@ module _ (net : Network) (valid : IsValid net) (writable : IsWritable net) (chos
         arith,
         total-append price (map (deny_prefix name) (enumerate_from 1 prefixes)) (last ∷ []),
         total-map price (deny_prefix name) (enumerate_from 1 prefixes),
-        counted-few (λ e. price (deny_prefix name e)) 130 1 8192 prefixes (λ e within. omega (arith, prefix-line-few name (Some (5 * e.0)) (route_text false e.1) short (omega (arith, within)) e.1.length e.1.length)) (omega (arith, low)),
+        counted-few (λ e. price (deny_prefix name e)) 130 1 8192 prefixes
+            (λ e within. omega (arith, prefix-line-few name (Some (5 * e.0)) (route_text false e.1) short (omega (arith, within)) e.1.length e.1.length)) (omega (arith, low)),
         prefix-line-few name (Some (5 * (length prefixes + 1))) all_routes short (omega (arith, low)) (omega arith) (omega arith),
       )
 
@@ -246,19 +238,21 @@ module _ (net : Network) (valid : IsValid net) (writable : IsWritable net) (chos
   one-named faces (Route face) name short some = by (session_at net face) refl
     where
       by : (o : Option SessionRow) → session_at net face ≡ o →
-          prices (new_route_commands name (new_prefixes chosen face.0)) + (prices (cons_option (option_map (λ (s : SessionRow). commands.NeighborList s.peer name) o) []) + 0) ≤ 512 * length (new_prefixes chosen face.0)
-      by None at = omega (arith, some, route-lines-few name (new_prefixes chosen face.0) short (omega (arith, new-prefixes-few face.0, few)))
+          prices (new_route_commands name (new_prefixes chosen face.0)) + (prices
+          (cons_option (option_map (λ (s : SessionRow). commands.NeighborList s.peer name) o) []) + 0) ≤ 512 * length (new_prefixes chosen face.0)
+      by None at = omega (arith, some, route-lines-few name (new_prefixes chosen face.0) short (omega (arith, few_put new_route_change chosen face.0, few)))
       by (Some s) at =
           omega (
             arith,
             some,
-            route-lines-few name (new_prefixes chosen face.0) short (omega (arith, new-prefixes-few face.0, few)),
+            route-lines-few name (new_prefixes chosen face.0) short (omega (arith, few_put new_route_change chosen face.0, few)),
             neighbor-list-few s.peer name (writable.peers s (session_in (λ (t : SessionRow). t.face.0 == face.0) net.sessions s at)) short,
           )
   one-named faces (Packet face) name short some = by (slice_get faces face.0)
     where
       by : (o : Option FacePlace) →
-          prices (new_packet_commands name (new_classes chosen face.0)) + (0 + placed (cons_option (option_map (λ (place : FacePlace). (place.last, commands.Group name true)) o) [])) ≤ 512 * length (new_classes chosen face.0)
+          prices (new_packet_commands name (new_classes chosen face.0)) + (0 + placed
+          (cons_option (option_map (λ (place : FacePlace). (place.last, commands.Group name true)) o) [])) ≤ 512 * length (new_classes chosen face.0)
       by None = omega (arith, some, packet-lines-few name (new_classes chosen face.0) short)
       by (Some place) = omega (arith, some, packet-lines-few name (new_classes chosen face.0) short, group-few name short)
 
@@ -266,7 +260,8 @@ module _ (net : Network) (valid : IsValid net) (writable : IsWritable net) (chos
   is_filled n = 1 ≤ new_size chosen n.0
 
   named-few : (faces : List FacePlace) (ns : List (NewList × List ℕ)) → AllByRecursion (IsNewName chosen) ns → AllByRecursion is_filled ns →
-      prices (flat_map (λ (n : NewList × List ℕ). new_list_commands chosen n.0 n.1) ns) + (prices (filter_map filters ns) + placed (filter_map (groups faces) ns)) ≤ 512 * total (λ (n : NewList × List ℕ). new_size chosen n.0) ns
+      prices (flat_map (λ (n : NewList × List ℕ). new_list_commands chosen n.0 n.1) ns) + (prices (filter_map filters ns) + placed (filter_map (groups faces) ns)) ≤ 512 * total
+      (λ (n : NewList × List ℕ). new_size chosen n.0) ns
   named-few faces [] names filled = omega arith
   named-few faces (n ∷ ns) names filled =
       let h : ℕ × Command → ℕ = λ x. price x.1 in
@@ -281,7 +276,8 @@ module _ (net : Network) (valid : IsValid net) (writable : IsWritable net) (chos
 
   -- ---- all
 
-  pub router-few : (places : List Places) (own : Places) (router : ℕ) → AllByRecursion (IsNewName chosen) (named_lists net chosen router) → AllByRecursion (λ (list : NewList). 1 ≤ new_size chosen list) (new_lists_of net chosen router) →
+  pub router-few : (places : List Places) (own : Places) (router : ℕ) → AllByRecursion (IsNewName chosen) (named_lists net chosen router) →
+      AllByRecursion (λ (list : NewList). 1 ≤ new_size chosen list) (new_lists_of net chosen router) →
       put (lines_before net own chosen router) + put (lines_after net places own chosen router) ≤ 512 * weight net chosen router
   router-few places own router names filled =
       let cost_at : ℕ × List ℕ → ℕ = λ x. cost_of x.1 in
@@ -332,28 +328,32 @@ module _ (net : Network) (valid : IsValid net) (writable : IsWritable net) (chos
 
       by : (b : Bool) → AllByRecursion IsSmallAt (if b then map (new_number word step count) (enumerate_from 1 place.entries) else [])
       by false = tt
-      by true = counted-all IsSmallAt (new_number word step count) 1 (length place.entries) place.entries (λ e within. omega (arith, within, counted, room, times-le step (count + e.0) low)) (omega arith)
+      by true = counted-all IsSmallAt (new_number word step count) 1 (length place.entries) place.entries
+          (λ e within. omega (arith, within, counted, room, times-le step (count + e.0) low)) (omega arith)
+
+  list-numbers-small : {L X : Type 0} (lists : List L) (place_of : L → Option ListPlace) (numbering : ℕ × ℕ) (change : Edit → Option (ℕ × X)) → numbering.1 ≤ 10 →
+      ((list : L) (place : ListPlace) → place_of list ≡ Some place → HasRoomAt place) →
+      (id : ℕ) → AllByRecursion IsSmallAt (list_numbers lists place_of numbering change chosen id)
+  list-numbers-small {L} lists place_of numbering change low room id = of-list (slice_get lists id)
+    where
+      of-place : (list : L) (o : Option ListPlace) → place_of list ≡ o →
+          AllByRecursion IsSmallAt (option_map_or (λ place. new_numbers place numbering.0 numbering.1 (length (of_number id (filter_map change chosen)))) o [])
+      of-place list None at = tt
+      of-place list (Some place) at = of-numbers place numbering.0 numbering.1 (length (of_number id (filter_map change chosen))) low (few_put change chosen id) (room list place at)
+
+      of-list : (o : Option L) →
+          AllByRecursion IsSmallAt
+          (option_map_or (λ list. option_map_or (λ place. new_numbers place numbering.0 numbering.1 (length (of_number id (filter_map change chosen)))) (place_of list) []) o [])
+      of-list None = tt
+      of-list (Some list) = of-place list (place_of list) refl
 
   pub numbers-small : (own : Places) (router : ℕ) → AllByRecursion HasRoomAt own.lists → AllByRecursion IsSmallAt (numbers_at net own chosen router)
   numbers-small own router rooms =
-      both-all IsSmallAt (flat_map (packet_list_numbers net own chosen) (edited_packet_lists net chosen router)) (flat_map (route_list_numbers net own chosen) (edited_route_lists net chosen router))
-      (flat-all IsSmallAt (packet_list_numbers net own chosen) (edited_packet_lists net chosen router) (λ id. of-packets id (slice_get net.packet_lists id)))
-      (flat-all IsSmallAt (route_list_numbers net own chosen) (edited_route_lists net chosen router) (λ id. of-routes id (slice_get net.route_lists id)))
-    where
-      packet-at : (id : ℕ) (o : Option ListPlace) → ((place : ListPlace) → o ≡ Some place → HasRoomAt place) → AllByRecursion IsSmallAt (option_map_or (λ place. new_numbers place 0 10 (length (list_classes chosen id))) o [])
-      packet-at id None room = tt
-      packet-at id (Some place) room = of-numbers place 0 10 (length (list_classes chosen id)) (omega arith) (classes-few id) (room place refl)
-
-      route-at : (id : ℕ) (o : Option ListPlace) → ((place : ListPlace) → o ≡ Some place → HasRoomAt place) → AllByRecursion IsSmallAt (option_map_or (λ place. new_numbers place 4 5 (length (list_prefixes chosen id))) o [])
-      route-at id None room = tt
-      route-at id (Some place) room = of-numbers place 4 5 (length (list_prefixes chosen id)) (omega arith) (prefixes-few id) (room place refl)
-
-      of-packets : (id : ℕ) (o : Option PacketList) →
-          AllByRecursion IsSmallAt (option_map_or (λ list. option_map_or (λ place. new_numbers place 0 10 (length (list_classes chosen id))) (packet_place own list.name) []) o [])
-      of-packets id None = tt
-      of-packets id (Some list) = packet-at id (packet_place own list.name) (λ place e. found-all HasRoomAt (λ place. bytes_eq place.name list.name && is_packet_form place.form) own.lists place rooms e)
-
-      of-routes : (id : ℕ) (o : Option RouteList) →
-          AllByRecursion IsSmallAt (option_map_or (λ list. option_map_or (λ place. new_numbers place 4 5 (length (list_prefixes chosen id))) (route_place own list.name) []) o [])
-      of-routes id None = tt
-      of-routes id (Some list) = route-at id (route_place own list.name) (λ place e. found-all HasRoomAt (λ place. bytes_eq place.name list.name && not (is_packet_form place.form)) own.lists place rooms e)
+      AllByRecursion-append IsSmallAt (flat_map (packet_list_numbers net own chosen) (edited_packet_lists net chosen router))
+      (flat_map (route_list_numbers net own chosen) (edited_route_lists net chosen router))
+      (flat-all IsSmallAt (packet_list_numbers net own chosen) (edited_packet_lists net chosen router)
+      (list-numbers-small net.packet_lists (λ (list : PacketList). packet_place own list.name) (0, 10) packet_list_change (omega arith)
+      (λ list place e. found-all HasRoomAt (λ place. bytes_eq place.name list.name && is_packet_form place.form) own.lists place rooms e)))
+      (flat-all IsSmallAt (route_list_numbers net own chosen) (edited_route_lists net chosen router)
+      (list-numbers-small net.route_lists (λ (list : RouteList). route_place own list.name) (4, 5) route_list_change (omega arith)
+      (λ list place e. found-all HasRoomAt (λ place. bytes_eq place.name list.name && not (is_packet_form place.form)) own.lists place rooms e)))

@@ -24,7 +24,7 @@ use Rattle.edit_list.proofs.Counts.{few_picked}
 use Rattle.line_patcher.specs.Patches.{patched_file, patched_text}
 use Rattle.line_patcher.specs.Additions.{lines_after, lines_before, numbers_at}
 use Rattle.settings_edit_laws.specs.Premises.{HasRoom}
-use Rattle.settings_edit_laws.proofs.Room.{room_within}
+use Rattle.settings_edit_laws.proofs.Room.{few_zipped, room_within}
 use Rattle.patch_laws.specs.EditFiles.{IsEditedFile}
 use Rattle.patch_laws.proofs.EditPremises.{edited-files}
 use Rattle.patch_laws.proofs.EditTops.{have-list-lines}
@@ -43,7 +43,8 @@ all-places P (l ∷ ls) each = (each l (Contains-head l ls), all-places P ls (λ
 -- one file
 module _ (net : Network) (places : List Places) (chosen : List Edit) (few : length chosen ≤ 8192) where
   pub file-few : (built : Built) (router : ℕ) (text new : List ℕ) (lines : Lines) (config : Config) (says : Says text config) → built.net ≡ net → built.places ≡ places → AreLinesOf text lines →
-      IsEditedFile net places chosen router text lines says.is_config.commands → new ≡ patched_file built chosen router text lines (places_of config) → 2 * length new ≤ 7 * length text + 5 + 1024 * weight net chosen router
+      IsEditedFile net places chosen router text lines says.is_config.commands → new ≡ patched_file built chosen router text lines (places_of config) →
+      2 * length new ≤ 7 * length text + 5 + 1024 * weight net chosen router
   file-few built router text new lines config says same_net same_places are file is =
       let own : Places = places_of config in
       let set : config ≡ config_of says.is_config.commands = says.is_config.set in
@@ -51,16 +52,19 @@ module _ (net : Network) (places : List Places) (chosen : List Edit) (few : leng
       all-places (HasRoomAt net file.valid file.writable chosen few) config.lists
       (λ list there. let room = file.room list (subst (λ (c : Config). Contains c.lists list) set there) in omega (arith, room, length-map list.entries (λ g. g.line))) in
       let size : length new ≡ length (patched_text text lines (lines_before net own chosen router) (numbers_at net own chosen router) (lines_after net places own chosen router)) =
-      ap length (is ∙ (λ i. patched_text text lines (lines_before (same_net i) own chosen router) (numbers_at (same_net i) own chosen router) (lines_after (same_net i) (same_places i) own chosen router))) in
+      ap length (is ∙ (λ i. patched_text text lines (lines_before (same_net i) own chosen router) (numbers_at (same_net i) own chosen router)
+      (lines_after (same_net i) (same_places i) own chosen router))) in
       omega (
         arith,
         size,
-        text-few text lines (lines_before net own chosen router) (numbers_at net own chosen router) (lines_after net places own chosen router) are (numbers-small net file.valid file.writable chosen few own router rooms),
+        text-few text lines (lines_before net own chosen router) (numbers_at net own chosen router) (lines_after net places own chosen router) are
+            (numbers-small net file.valid file.writable chosen few own router rooms),
         router-few net file.valid file.writable chosen few places own router file.names (lists-filled net file.valid chosen router),
       )
 
 -- all files
-sums : (w : ℕ → ℕ) (a : ℕ) (files new : List (List ℕ)) → length new ≡ length files → ((place : ℕ) (x y : List ℕ) → slice_get files place ≡ Some x → slice_get new place ≡ Some y → 2 * length y ≤ 7 * length x + 5 + 1024 * w (a + place)) →
+sums : (w : ℕ → ℕ) (a : ℕ) (files new : List (List ℕ)) → length new ≡ length files →
+    ((place : ℕ) (x y : List ℕ) → slice_get files place ≡ Some x → slice_get new place ≡ Some y → 2 * length y ≤ 7 * length x + 5 + 1024 * w (a + place)) →
     2 * total length new ≤ 7 * total length files + 5 * length files + 1024 * total w (range_with_len a (length files))
 sums w a [] [] same each = omega arith
 sums w a [] (y ∷ new) same each = absurd (omega (arith, same))
@@ -81,13 +85,8 @@ in-range w a zero k low = absurd (omega (arith, low))
 in-range w a (suc n) zero low = let start : a + 0 ≡ a = omega arith in omega (arith, ap w start)
 in-range w a (suc n) (suc k) low = let shift : a + suc k ≡ a + 1 + k = omega arith in omega (arith, ap w shift, in-range w (a + 1) n k (omega (arith, low)))
 
-zipped-few : {X Y : Type 0} (xs : List X) (ys : List Y) → length (zip xs ys) ≤ length xs
-zipped-few [] ys = omega arith
-zipped-few (x ∷ xs) [] = omega arith
-zipped-few (x ∷ xs) (y ∷ ys) = omega (arith, zipped-few xs ys)
-
 chosen-few : (list : List Edit) (flags : List Bool) → length list ≤ 8192 → length (chosen_of list flags) ≤ 8192
-chosen-few list flags few = omega (arith, few_picked if_chosen (zip list flags), zipped-few list flags, few)
+chosen-few list flags few = omega (arith, few_picked if_chosen (zip list flags), few_zipped list flags, few)
 
 pub patched_files_are_short : PatchedFilesAreShort
 patched_files_are_short doc built olds new list flags editable are few total_few patched =
@@ -109,14 +108,16 @@ patched_files_are_short doc built olds new list flags editable are few total_few
     let at_p : slice_get built.places place ≡ Some (places_of config) =
     ap (λ (ps : List Places). slice_get ps place) editable.is_built.places ∙ slice_get-map places_of configs place ∙ ap (option_map places_of) at_c in
     let file : IsEditedFile net built.places chosen place x lines says.is_config.commands =
-    edited-files (λ text ls cs are_ls stand. have-list-lines text ls cs are_ls stand) doc olds built was list flags editable.fit.valid editable.countable editable.fit.ends are room place config x says lines at_c at_x are_lines in
+    edited-files (λ text ls cs are_ls stand. have-list-lines text ls cs are_ls stand) doc olds built was list flags editable.fit.valid editable.countable editable.fit.ends
+    are room place config x says lines at_c at_x are_lines in
     let is = patched.each place x y at_x at_y in
     let of_lines = subst (λ (o : Option Lines). IsSomeAnd o (λ ls. IsSomeAnd (slice_get built.places place) (λ own. y ≡ patched_file built chosen place x ls own))) at_l is in
     let of_places = subst (λ (o : Option Places). IsSomeAnd o (λ own. y ≡ patched_file built chosen place x lines own)) at_p of_lines in
     file-few net built.places chosen few_chosen built place x y lines config says refl refl are_lines file of_places in
     let weights = weights-few net editable.fit.valid chosen (length olds) in
     let routers : length olds ≤ 256 =
-    (let said = AllZip-length Says olds configs within.said in let rows = AllZip-length (IsRouterRow net.protocol) configs net.routers within.rows.base.routers in let most = editable.fit.valid.few_routers in omega (arith, said, rows, most)) in
+    (let said = AllZip-length Says olds configs within.said in let rows = AllZip-length (IsRouterRow net.protocol) configs net.routers within.rows.base.routers in let most =
+    editable.fit.valid.few_routers in omega (arith, said, rows, most)) in
     record {
       each = λ k d low.
           let y : List ℕ = get_or new k d in
@@ -124,7 +125,15 @@ patched_files_are_short doc built olds new list flags editable are few total_few
           let inside : k < length olds = omega (arith, low, patched.whole) in
           let short : length x ≤ 1048576 = editable.bytes k d inside in
           let first : 0 + k ≡ k = omega arith in
-          omega (arith, short, few_chosen, weights, ap (weight net chosen) first, in-range (weight net chosen) 0 (length olds) k inside, each k x y (slice_get-get_or olds k d inside) (slice_get-get_or new k d low));
+          omega (
+            arith,
+            short,
+            few_chosen,
+            weights,
+            ap (weight net chosen) first,
+            in-range (weight net chosen) 0 (length olds) k inside,
+            each k x y (slice_get-get_or olds k d inside) (slice_get-get_or new k d low),
+          );
       all = omega (
         arith,
         total_few,

@@ -5,6 +5,7 @@ use Rattle.std.specs.List.{filter_map, flat_map, range_with_len, cons_option, zi
 use Rattle.std.proofs.lemmas.Bool.{eqb-true}
 use Rattle.std.proofs.lemmas.List.Recursion.{is_sum_by}
 use Rattle.arc_base.specs.Numbered.{of_number}
+use Rattle.arc_base.proofs.Zips.{AllByRecursion-append}
 
 -- the sum over a list
 abbrev pub total : {X : Type 0} → (X → ℕ) → List X → ℕ
@@ -109,13 +110,9 @@ picked-all {X} {Y} P f (x ∷ xs) each = by (f x) refl (picked-all P f xs each)
     by None e rest = rest
     by (Some y) e rest = (each x y e, rest)
 
-pub both-all : {X : Type 0} (P : X → Type 0) (xs ys : List X) → AllByRecursion P xs → AllByRecursion P ys → AllByRecursion P (xs ++ ys)
-both-all P [] ys one two = two
-both-all P (x ∷ xs) ys one two = (one.0, both-all P xs ys one.1 two)
-
 pub flat-all : {X Y : Type 0} (P : Y → Type 0) (f : X → List Y) (xs : List X) → ((x : X) → AllByRecursion P (f x)) → AllByRecursion P (flat_map f xs)
 flat-all P f [] each = tt
-flat-all P f (x ∷ xs) each = both-all P (f x) (flat_map f xs) (each x) (flat-all P f xs each)
+flat-all P f (x ∷ xs) each = AllByRecursion-append P (f x) (flat_map f xs) (each x) (flat-all P f xs each)
 
 -- what holds of all things holds of those of a number
 pub numbered-all : {X : Type 0} (P : X → Type 0) (k : ℕ) (things : List (ℕ × X)) → AllByRecursion (λ (t : ℕ × X). P t.1) things → AllByRecursion P (of_number k things)

@@ -57,7 +57,8 @@ lengths-few len low high few most = by (low == len) (high == len) (high == 32)
           length-few high most,
         )
 
-pub prefix-line-few : (name : List ℕ) (order : Option ℕ) (route : RouteText) → length name ≤ 64 → IsSmallOrder order → route.low ≤ 32 → route.high ≤ 32 → length (plain_line kinds.Top (commands.PrefixLine name order route)) ≤ 128
+pub prefix-line-few : (name : List ℕ) (order : Option ℕ) (route : RouteText) → length name ≤ 64 → IsSmallOrder order → route.low ≤ 32 → route.high ≤ 32 →
+    length (plain_line kinds.Top (commands.PrefixLine name order route)) ≤ 128
 prefix-line-few name order route few small low high =
     let lasts : List (List ℕ) = length_words route.prefix.len route.low route.high in
     let rest : List (List ℕ) = route_words route in
@@ -77,7 +78,13 @@ prefix-line-few name order route few small low high =
 
 pub list-head-few : (name : List ℕ) → length name ≤ 64 → length (plain_line kinds.Top (commands.ListBlock true name)) ≤ 90
 list-head-few name few =
-    omega (arith, top-few (codes "ip") (codes "access-list" ∷ codes "extended" ∷ name ∷ []), word-more (codes "access-list") (codes "extended" ∷ name ∷ []), word-more (codes "extended") (name ∷ []), word-more name [])
+    omega (
+      arith,
+      top-few (codes "ip") (codes "access-list" ∷ codes "extended" ∷ name ∷ []),
+      word-more (codes "access-list") (codes "extended" ∷ name ∷ []),
+      word-more (codes "extended") (name ∷ []),
+      word-more name [],
+    )
 
 pub group-few : (name : List ℕ) → length name ≤ 64 → length (plain_line kinds.Interface (commands.Group name true)) ≤ 90
 group-few name few =
@@ -103,4 +110,10 @@ passive-few b name few = omega (arith, unless-few b (codes "passive-interface" �
 
 pub neighbor-few : (peer : ℕ) (b : Bool) → peer < 2 ^ 32 → length (plain_line kinds.Bgp (commands.NeighborDown peer b)) ≤ 90
 neighbor-few peer b small =
-    omega (arith, unless-few b (codes "neighbor" ∷ address_text peer ∷ codes "shutdown" ∷ []), word-more (codes "neighbor") (address_text peer ∷ codes "shutdown" ∷ []), word-more (address_text peer) (codes "shutdown" ∷ []), address-few peer small)
+    omega (
+      arith,
+      unless-few b (codes "neighbor" ∷ address_text peer ∷ codes "shutdown" ∷ []),
+      word-more (codes "neighbor") (address_text peer ∷ codes "shutdown" ∷ []),
+      word-more (address_text peer) (codes "shutdown" ∷ []),
+      address-few peer small,
+    )

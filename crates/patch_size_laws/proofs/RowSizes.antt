@@ -1,5 +1,6 @@
 -- How long a patched text is: half as much again for each digit that a number gains, and what is put into it.
-use Rattle.std.proofs.Common.{◌≡◌, ℕ, zero, suc, ◌+◌, ◌-◌, ◌*◌, ◌<◌, ◌≤◌, ◌==◌, Bool, true, false, if◌then◌else◌, List, [], ◌∷◌, ◌++◌, length, length-append, length-take, drop, refl, ap, subst, arith, decimal}
+use Rattle.std.proofs.Common.{◌≡◌, ℕ, zero, suc, ◌+◌, ◌-◌, ◌*◌, ◌<◌, ◌≤◌, ◌==◌, Bool, true, false, if◌then◌else◌, List, [], ◌∷◌, ◌++◌, length, length-append, length-take, drop, refl, ap}
+use Rattle.std.proofs.Common.{subst, arith, decimal}
 use Rattle.std.specs.Prelude.{Option, Some, None, slice_get, slice_range}
 use Rattle.std.specs.Option.{option_map_or}
 use Rattle.std.specs.List.{enumerate_from, flat_map, range_with_len, AllByRecursion}
@@ -66,7 +67,8 @@ row-few : (text : List ℕ) (row : Line) (numbers : List NewNumber) → AreWords
 row-few text row [] are low small = omega (arith, range-few text row.span.from row.span.to)
 row-few text row (new ∷ more) are low small = by (slice_get row.words new.word) refl
   where
-    by : (o : Option Span) → slice_get row.words new.word ≡ o → 2 * length (option_map_or (λ span. rewritten text row span (decimal new.number)) o (part text row.span)) ≤ 7 * (row.span.to - row.span.from) + 5
+    by : (o : Option Span) → slice_get row.words new.word ≡ o → 2 * length
+        (option_map_or (λ span. rewritten text row span (decimal new.number)) o (part text row.span)) ≤ 7 * (row.span.to - row.span.from) + 5
     by None e = omega (arith, range-few text row.span.from row.span.to)
     by (Some span) e =
         let w = word-in text row.span.from row.span.to row.words new.word span are e in
@@ -110,7 +112,8 @@ no-rows : (rows : List Line) → length rows ≡ 0 → rows ≡ []
 no-rows [] e = refl
 no-rows (row ∷ rows) e = absurd (omega (arith, e))
 
-module _ (text end : List ℕ) (before : List (ℕ × List ℕ)) (numbers : List (ℕ × NewNumber)) (after : List (ℕ × List ℕ)) (short : length end ≤ 2) (small : AllByRecursion (λ (x : ℕ × NewNumber). IsSmall x.1) numbers) where
+module _ (text end : List ℕ) (before : List (ℕ × List ℕ)) (numbers : List (ℕ × NewNumber)) (after : List (ℕ × List ℕ)) (short : length end ≤ 2)
+    (small : AllByRecursion (λ (x : ℕ × NewNumber). IsSmall x.1) numbers) where
   abbrev patched : ℕ → List Line → ℕ
   patched k rows = length (flat_map (patched_row text end before numbers after) (enumerate_from k rows))
 
@@ -146,7 +149,8 @@ module _ (text end : List ℕ) (before : List (ℕ × List ℕ)) (numbers : List
       let joined = length-append (patched_row text end before numbers after (k, row)) (flat_map (patched_row text end before numbers after) (enumerate_from (k + 1) rows)) in
       by row.end refl here joined from low (all-rows (to + row.end) (k + 1) rows join.2 has.1)
     where
-      by : (e : ℕ) → row.end ≡ e → 2 * length (patched_row text end before numbers after (k, row)) ≤ 7 * (row.span.to - row.span.from) + 5 + 2 * row.end + 2 * (cost (of_number k before) + cost (of_number k after)) →
+      by : (e : ℕ) → row.end ≡ e →
+          2 * length (patched_row text end before numbers after (k, row)) ≤ 7 * (row.span.to - row.span.from) + 5 + 2 * row.end + 2 * (cost (of_number k before) + cost (of_number k after)) →
           patched k (row ∷ rows) ≡ length (patched_row text end before numbers after (k, row)) + patched (k + 1) rows → row.span.from ≡ at → at ≤ row.span.to →
           7 * (row.span.to + row.end) + 2 * patched (k + 1) rows ≤ 7 * length text + 5 + 2 * puts (k + 1) rows → 7 * at + 2 * patched k (row ∷ rows) ≤ 7 * length text + 5 + 2 * puts k (row ∷ rows)
       by zero e here joined from low deeper =
@@ -158,13 +162,15 @@ module _ (text end : List ℕ) (before : List (ℕ × List ℕ)) (numbers : List
           omega (arith, here, joined, from, low, e, last, rest)
       by (suc n) e here joined from low deeper = omega (arith, here, joined, from, low, e, deeper)
 
-pub text-few : (text : List ℕ) (lines : Lines) (before : List (ℕ × List ℕ)) (numbers : List (ℕ × NewNumber)) (after : List (ℕ × List ℕ)) → AreLinesOf text lines → AllByRecursion (λ (x : ℕ × NewNumber). IsSmall x.1) numbers →
+pub text-few : (text : List ℕ) (lines : Lines) (before : List (ℕ × List ℕ)) (numbers : List (ℕ × NewNumber)) (after : List (ℕ × List ℕ)) → AreLinesOf text lines →
+    AllByRecursion (λ (x : ℕ × NewNumber). IsSmall x.1) numbers →
     2 * length (patched_text text lines before numbers after) ≤ 7 * length text + 5 + 2 * (put before + put after)
 text-few text lines before numbers after are small =
     let ks : List ℕ = range_with_len 1 (length lines.rows) in
     omega (
       arith,
-      all-rows text (line_end text lines.rows) before numbers after (line-end-short text lines.rows are.join) small 0 1 lines.rows are.join (have-words 0 lines.rows (λ k row at. (are.rows k row at).spans)),
+      all-rows text (line_end text lines.rows) before numbers after (line-end-short text lines.rows are.join) small 0 1 lines.rows are.join
+          (have-words 0 lines.rows (λ k row at. (are.rows k row at).spans)),
       keyed-few cost_of before ks (apart-range 1 (length lines.rows)),
       keyed-few cost_of after ks (apart-range 1 (length lines.rows)),
     )

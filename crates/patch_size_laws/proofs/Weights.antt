@@ -4,6 +4,7 @@ use Rattle.std.specs.Prelude.{Option, Some, None, slice_get, option_map, AllPair
 use Rattle.std.specs.List.{filter_map, range_with_len, cons_option, AllByRecursion}
 use Rattle.std.proofs.lemmas.Option.{none-some, same_Some}
 use Rattle.arc_base.proofs.Items.{AllPairs-first, AllPairs-rest, Contains-head, Contains-tail}
+use Rattle.arc_base.proofs.Zips.{AllByRecursion-append}
 use Rattle.net_model.specs.declared.rows.FaceRow.{FaceRow}
 use Rattle.net_model.specs.declared.rows.Network.{Network}
 use Rattle.net_model.specs.declared.rows.SessionRow.{SessionRow}
@@ -17,9 +18,9 @@ use Rattle.edit_list.specs.declared.list_kinds.NewList.TheVariants.{Route, Packe
 use Rattle.edit_list.specs.Changes.{list_classes, list_prefixes, new_classes, new_prefixes, new_packet_change, new_route_change, packet_list_change, route_list_change}
 use Rattle.edit_list.specs.NewLists.{new_lists, new_lists_of, new_packet_list, new_route_list}
 use Rattle.arc_base.specs.Numbered.{is_empty, of_number, placed}
-use Rattle.line_patcher.specs.EntryLines.{edited_packet_list, edited_route_list, edited_packet_lists, edited_route_lists}
+use Rattle.line_patcher.specs.EntryLines.{edited_by, edited_packet_list, edited_route_list, edited_packet_lists, edited_route_lists}
 use Rattle.line_patcher.specs.SessionLines.{turned_face, turned_faces}
-use Rattle.patch_size_laws.proofs.Keyed.{total, total-append, total-le, total-map, total-ones, picked-few, zip-few, Apart, Other, apart-range, keyed-few, picked-all, both-all, numbered-all}
+use Rattle.patch_size_laws.proofs.Keyed.{total, total-append, total-le, total-map, total-ones, picked-few, zip-few, Apart, Other, apart-range, keyed-few, picked-all, numbered-all}
 use Rattle.patch_size_laws.proofs.Costs.{new_size, weight}
 
 total-add : {X : Type 0} (h g : X → ℕ) (xs : List X) → total (λ x. h x + g x) xs ≡ total h xs + total g xs
@@ -66,7 +67,8 @@ module _ (net : Network) (valid : IsValid net) (chosen : List Edit) where
   one-kind (edits.PacketNew face class) = omega arith
 
   all-kinds : length (filter_map (turned_face net) chosen) +
-      (length (filter_map packet_list_change chosen) + (length (filter_map route_list_change chosen) + (length (filter_map new_route_change chosen) + length (filter_map new_packet_change chosen)))) ≤ length chosen
+      (length (filter_map packet_list_change chosen) + (length
+      (filter_map route_list_change chosen) + (length (filter_map new_route_change chosen) + length (filter_map new_packet_change chosen)))) ≤ length chosen
   all-kinds =
       omega (
         arith,
@@ -95,7 +97,8 @@ module _ (net : Network) (valid : IsValid net) (chosen : List Edit) where
   route-list-few : (s : SessionRow) (y : ℕ × NewList) → new_route_list net chosen s ≡ Some y → new_size chosen y.1 ≤ length (new_prefixes chosen s.face.0)
   route-list-few s y is = by (is_empty (new_prefixes chosen s.face.0)) (slice_get net.faces s.face.0) is
     where
-      by : (b : Bool) (o : Option FaceRow) → (if b then None else option_map (λ (face : FaceRow). (face.router.0, Route s.face)) o) ≡ Some y → new_size chosen y.1 ≤ length (new_prefixes chosen s.face.0)
+      by : (b : Bool) (o : Option FaceRow) → (if b then None else option_map (λ (face : FaceRow). (face.router.0, Route s.face)) o) ≡ Some y →
+          new_size chosen y.1 ≤ length (new_prefixes chosen s.face.0)
       by true o e = absurd (none-some y e)
       by false None e = absurd (none-some y e)
       by false (Some row) e = omega (arith, ap (λ (z : ℕ × NewList). new_size chosen z.1) (same_Some (row.router.0, Route s.face) y e))
@@ -107,19 +110,13 @@ module _ (net : Network) (valid : IsValid net) (chosen : List Edit) where
       by true e = absurd (none-some y e)
       by false e = omega (arith, ap (λ (z : ℕ × NewList). new_size chosen z.1) (same_Some (f.1.router.0, Packet (record { 0 = f.0 })) y e))
 
-  edited-packet-few : (p : ℕ × PacketList) (y : ℕ × ℕ) → edited_packet_list chosen p ≡ Some y → length (list_classes chosen y.1) ≤ length (list_classes chosen p.0)
-  edited-packet-few p y is = by (is_empty (list_classes chosen p.0)) is
+  edited-few : {L X : Type 0} (router_of : L → ℕ) (change : Edit → Option (ℕ × X)) (p : ℕ × L) (y : ℕ × ℕ) → edited_by router_of change chosen p ≡ Some y →
+      length (of_number y.1 (filter_map change chosen)) ≤ length (of_number p.0 (filter_map change chosen))
+  edited-few router_of change p y is = by (is_empty (of_number p.0 (filter_map change chosen))) is
     where
-      by : (b : Bool) → (if b then None else Some (p.1.router.0, p.0)) ≡ Some y → length (list_classes chosen y.1) ≤ length (list_classes chosen p.0)
+      by : (b : Bool) → (if b then None else Some (router_of p.1, p.0)) ≡ Some y → length (of_number y.1 (filter_map change chosen)) ≤ length (of_number p.0 (filter_map change chosen))
       by true e = absurd (none-some y e)
-      by false e = omega (arith, ap (λ (z : ℕ × ℕ). length (list_classes chosen z.1)) (same_Some (p.1.router.0, p.0) y e))
-
-  edited-route-few : (p : ℕ × RouteList) (y : ℕ × ℕ) → edited_route_list chosen p ≡ Some y → length (list_prefixes chosen y.1) ≤ length (list_prefixes chosen p.0)
-  edited-route-few p y is = by (is_empty (list_prefixes chosen p.0)) is
-    where
-      by : (b : Bool) → (if b then None else Some (p.1.router.0, p.0)) ≡ Some y → length (list_prefixes chosen y.1) ≤ length (list_prefixes chosen p.0)
-      by true e = absurd (none-some y e)
-      by false e = omega (arith, ap (λ (z : ℕ × ℕ). length (list_prefixes chosen z.1)) (same_Some (p.1.router.0, p.0) y e))
+      by false e = omega (arith, ap (λ (z : ℕ × ℕ). length (of_number z.1 (filter_map change chosen))) (same_Some (router_of p.1, p.0) y e))
 
   -- all routers have no more edits than there are
   pub weights-few : (n : ℕ) → total (weight net chosen) (range_with_len 0 n) ≤ length chosen
@@ -143,11 +140,11 @@ module _ (net : Network) (valid : IsValid net) (chosen : List Edit) where
         total-add routes news ks,
         lengths-few (filter_map (turned_face net) chosen) ks apart,
         keyed-few g (filter_map (edited_packet_list chosen) lists) ks apart,
-        picked-few (edited_packet_list chosen) (λ (y : ℕ × ℕ). g y.1) (λ (p : ℕ × PacketList). g p.0) lists edited-packet-few,
+        picked-few (edited_packet_list chosen) (λ (y : ℕ × ℕ). g y.1) (λ (p : ℕ × PacketList). g p.0) lists (edited-few (λ (l : PacketList). l.router.0) packet_list_change),
         zip-few g (range_with_len 0 (length net.packet_lists)) net.packet_lists,
         lengths-few (filter_map packet_list_change chosen) (range_with_len 0 (length net.packet_lists)) (apart-range 0 (length net.packet_lists)),
         keyed-few h (filter_map (edited_route_list chosen) filters) ks apart,
-        picked-few (edited_route_list chosen) (λ (y : ℕ × ℕ). h y.1) (λ (p : ℕ × RouteList). h p.0) filters edited-route-few,
+        picked-few (edited_route_list chosen) (λ (y : ℕ × ℕ). h y.1) (λ (p : ℕ × RouteList). h p.0) filters (edited-few (λ (l : RouteList). l.router.0) route_list_change),
         zip-few h (range_with_len 0 (length net.route_lists)) net.route_lists,
         lengths-few (filter_map route_list_change chosen) (range_with_len 0 (length net.route_lists)) (apart-range 0 (length net.route_lists)),
         keyed-few size (new_lists net chosen) ks apart,
@@ -172,7 +169,8 @@ module _ (net : Network) (valid : IsValid net) (chosen : List Edit) where
   route-filled : (s : SessionRow) (y : ℕ × NewList) → new_route_list net chosen s ≡ Some y → IsFilled y.1
   route-filled s y is = by (is_empty (new_prefixes chosen s.face.0)) (slice_get net.faces s.face.0) refl is
     where
-      by : (b : Bool) (o : Option FaceRow) → is_empty (new_prefixes chosen s.face.0) ≡ b → (if b then None else option_map (λ (face : FaceRow). (face.router.0, Route s.face)) o) ≡ Some y → IsFilled y.1
+      by : (b : Bool) (o : Option FaceRow) → is_empty (new_prefixes chosen s.face.0) ≡ b →
+          (if b then None else option_map (λ (face : FaceRow). (face.router.0, Route s.face)) o) ≡ Some y → IsFilled y.1
       by true o some e = absurd (none-some y e)
       by false None some e = absurd (none-some y e)
       by false (Some row) some e = subst (λ (z : ℕ × NewList). IsFilled z.1) (same_Some (row.router.0, Route s.face) y e) (some-items (new_prefixes chosen s.face.0) some)
@@ -187,6 +185,6 @@ module _ (net : Network) (valid : IsValid net) (chosen : List Edit) where
   pub lists-filled : (router : ℕ) → AllByRecursion IsFilled (new_lists_of net chosen router)
   lists-filled router =
       numbered-all IsFilled router (new_lists net chosen)
-      (both-all (λ (t : ℕ × NewList). IsFilled t.1) (filter_map (new_route_list net chosen) net.sessions) (filter_map (new_packet_list chosen) (placed net.faces))
+      (AllByRecursion-append (λ (t : ℕ × NewList). IsFilled t.1) (filter_map (new_route_list net chosen) net.sessions) (filter_map (new_packet_list chosen) (placed net.faces))
       (picked-all (λ (t : ℕ × NewList). IsFilled t.1) (new_route_list net chosen) net.sessions route-filled)
       (picked-all (λ (t : ℕ × NewList). IsFilled t.1) (new_packet_list chosen) (placed net.faces) packet-filled))

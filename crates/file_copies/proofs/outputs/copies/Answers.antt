@@ -30,7 +30,8 @@ loop-at-preserved c =
                 ∙ ap (λ (ws : List (List ℕ × List ℕ)). ws ++ (w.in_ok-name.name, w.in_ok-make.field-0) ∷ []) c.loop-at.invariant.writes
                 ∙ ap (λ (n : List ℕ). done ++ (n, w.in_ok-make.field-0) ∷ []) named
                 ∙ ap (λ (t : List ℕ). done ++ (copy_name suffix name, t) ∷ []) text
-                ∙ sym (changed_more suffix names olds news at name old new (omega (arith, c.loop-at-test.true, same_news)) c.requires.old same_news (sym w.index-names-at.is) (sym c.index-old-at.is) (sym c.text-item.is) differ);
+                ∙ sym (changed_more suffix names olds news at name old new (omega (arith, c.loop-at-test.true, same_news)) c.requires.old same_news (sym w.index-names-at.is)
+                (sym c.index-old-at.is) (sym c.text-item.is) differ);
             few = omega (arith, ap length w.writes-is, ap length w.in_ok-push.ensures.ok, length-append c.loop-at.writes ((w.in_ok-name.name, w.in_ok-make.field-0) ∷ []), c.loop-at.invariant.few);
           }
       | else-not-is w ↦

@@ -9,7 +9,7 @@ use Rattle.edit_list.specs.declared.list_kinds.NewList.{NewList}
 use Rattle.line_patcher.specs.Additions.{all_at}
 use Rattle.line_patcher.specs.SessionLines.{session_command, turned_faces}
 use Rattle.line_patcher.specs.NewListLines.{filter_command, group_command, face_places}
-use Rattle.line_patcher.proofs.Tables.{at_number}
+use Rattle.arc_base.proofs.Grouped.{things_told}
 use Rattle.line_patcher.proofs.additions.commands_after.Goals as goal
 
 pub returns : goal.returns
@@ -22,9 +22,11 @@ returns c =
     let filters : List (NewList × List ℕ) → List Command = filter_map (λ n. filter_command net n.0 n.1) in
     let groups : List FacePlace → List (NewList × List ℕ) → List (ℕ × Command) = λ faces. filter_map (λ n. group_command faces n.0 n.1) in
     let turned : c.things_at.result.now ≡ turned_faces net chosen router =
-    at_number (turned_faces net chosen) (length net.routers) router c.deref.result.now c.args.plan.now.turned.items c.things_at.result.now c.requires.plan.turned c.deref.ensures.value c.requires.router c.things_at.ensures in
+    things_told c.deref.result.now (turned_faces net chosen) (length net.routers) router c.things_at.result.now
+    (c.deref.ensures.value ∙ c.requires.plan.turned) c.requires.router c.things_at.ensures in
     let faces : c.deref-2.result.now ≡ face_places c.args.built.now.places = c.deref-2.ensures.value ∙ c.requires.plan.faces in
     let process : c.push_filter_commands.new.commands.items ≡ sessions c.things_at.result.now ++ filters c.args.named.now =
-    c.in_ok-push_filter_commands.ensures ∙ ap (λ l. l ++ filters c.args.named.now) (c.in_ok-push_session_commands.ensures ∙ ap (λ l. l ++ sessions c.things_at.result.now) c.new-process.ensures.items) in
+    c.in_ok-push_filter_commands.ensures ∙ ap (λ l. l ++ filters c.args.named.now)
+    (c.in_ok-push_session_commands.ensures ∙ ap (λ l. l ++ sessions c.things_at.result.now) c.new-process.ensures.items) in
     c.in_ok-push_group_commands.ensures ∙ ap (λ l. l ++ groups c.deref-2.result.now c.args.named.now) (c.in_ok-commands.ensures ∙ ap (all_at own.process_last) process) ∙
     (λ i. all_at own.process_last (sessions (turned i) ++ filters (c.requires.named i)) ++ groups (faces i) (c.requires.named i))

@@ -11,5 +11,6 @@ loop-at-preserved c =
     let line : ℕ = get_or lines c.loop-at.at 0 in
     let numbered : ℕ → ℕ × NewNumber = λ n. (line, record { word = c.args.word; number = n }) in
     let e : c.args.count + c.loop-at.at + 1 ≡ c.args.count + (c.loop-at.at + 1) = omega arith in
-    counted_grown (new_number c.args.word c.args.step c.args.count) lines c.loop-at.at line c.args.numbers.now.items c.loop-at.numbers.items c.push.new.self.items (numbered (c.args.step * (c.args.count + c.loop-at.at + 1))) c.loop-at-test.true
+    counted_grown (new_number c.args.word c.args.step c.args.count) lines c.loop-at.at line c.args.numbers.now.items c.loop-at.numbers.items c.push.new.self.items
+    (numbered (c.args.step * (c.args.count + c.loop-at.at + 1))) c.loop-at-test.true
     (get_or_default lines c.loop-at.at 0 line c.loop-at-test.true) (ap (λ (n : ℕ). numbered (c.args.step * n)) e) c.loop-at.invariant c.in_ok-push.ensures.items

@@ -11,7 +11,8 @@ loop-place-preserved c =
     let i : ℕ = c.loop-place.place in
     let list : NewList = get_or lists i (Route (record { 0 = 0 })) in
     let name : List ℕ = c.index-names-place.result in
-    zip_more lists c.args.names.now i list name c.loop-place.named.items c.push.new.self.items (list, c.in_ok-make.field-0) c.requires c.loop-place-test.true (get_or_default lists i (Route (record { 0 = 0 })) list c.loop-place-test.true)
+    zip_more lists c.args.names.now i list name c.loop-place.named.items c.push.new.self.items (list, c.in_ok-make.field-0) c.requires c.loop-place-test.true
+    (get_or_default lists i (Route (record { 0 = 0 })) list c.loop-place-test.true)
     c.index-names-place.is (λ j. (list, (c.in_ok-make.ensures ∙ c.bytes.ensures) j)) c.loop-place.invariant c.in_ok-push.ensures.items
 
 pub returns : goal.returns

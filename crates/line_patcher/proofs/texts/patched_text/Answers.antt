@@ -24,15 +24,17 @@ line_end-end-requires c = subst (All (LiesWithin c.args.text.now)) (sym c.slice-
 pub push_row-requires : goal.push_row-requires
 push_row-requires c =
     let rows : List Line = c.slice-rows.result.now in
-    let at : slice_get rows c.loop-place.place ≡ Some c.index-rows-place.result = slice_get_read rows (length rows) c.loop-place.place c.index-rows-place.result refl c.loop-place-test.true c.index-rows-place.is in
-    row-within c.args.text.now c.args.lines.now c.loop-place.place c.index-rows-place.result c.requires.lines (ap (λ (l : List Line). slice_get l c.loop-place.place) (sym c.slice-rows.ensures.items) ∙ at)
+    let at : slice_get rows c.loop-place.place ≡ Some c.index-rows-place.result =
+    slice_get_read rows (length rows) c.loop-place.place c.index-rows-place.result refl c.loop-place-test.true c.index-rows-place.is in
+    row-within c.args.text.now c.args.lines.now c.loop-place.place c.index-rows-place.result c.requires.lines
+    (ap (λ (l : List Line). slice_get l c.loop-place.place) (sym c.slice-rows.ensures.items) ∙ at)
 
 pub loop-place-preserved : goal.loop-place-preserved
 loop-place-preserved c =
     let text : List ℕ = c.args.text.now in
-    let before : List (ℕ × Command) = c.args.all.before.items in
-    let numbers : List (ℕ × NewNumber) = c.args.all.numbers.items in
-    let after : List (ℕ × Command) = c.args.all.after.items in
+    let before : List (ℕ × Command) = c.args.before.items in
+    let numbers : List (ℕ × NewNumber) = c.args.numbers.items in
+    let after : List (ℕ × Command) = c.args.after.items in
     let patched : List ℕ → ℕ × Line → List ℕ = λ end. patched_row text end (lines_at before) numbers (lines_at after) in
     let rows : List Line = c.slice-rows.result.now in
     let i : ℕ = c.loop-place.place in
@@ -43,14 +45,17 @@ loop-place-preserved c =
     let end : c.line_end-end.result.now ≡ line_end text c.args.lines.now.rows = c.line_end-end.ensures ∙ ap (line_end text) c.slice-rows.ensures.items in
     let whole : row_around text c.line_end-end.result.now table (i + 1) row ≡ patched (line_end text c.args.lines.now.rows) (i + 1, row) =
     around text c.line_end-end.result.now table count before after numbers (i + 1) row c.in_ok-commands_at.ensures
-    (grouped_are count count c.deref.result.now numbers c.in_ok-grouped.field-0.items refl c.deref.ensures.value c.in_ok-grouped.ensures) c.in_ok-commands_at-2.ensures low ∙
+    (grouped_are count count c.deref-4.result.now numbers c.in_ok-grouped.field-0.items refl c.deref-4.ensures.value c.in_ok-grouped.ensures) c.in_ok-commands_at-2.ensures low ∙
     (λ j. patched (end j) (i + 1, row)) in
-    counted_pieces (patched (line_end text c.args.lines.now.rows)) rows i row c.loop-place.new.items c.push_row.new.new.items (row_around text c.line_end-end.result.now table (i + 1) row) c.loop-place-test.true
+    counted_pieces (patched (line_end text c.args.lines.now.rows)) rows i row c.loop-place.new.items c.push_row.new.new.items
+    (row_around text c.line_end-end.result.now table (i + 1) row) c.loop-place-test.true
     c.index-rows-place.is whole c.loop-place.invariant c.in_ok-push_row.ensures
 
-pub returns-then-is_empty : goal.returns-then-is_empty
-returns-then-is_empty c =
+pub returns-then-is_nothing : goal.returns-then-is_nothing
+returns-then-is_nothing c =
     let text : List ℕ = c.args.text.now in
-    let Is : List ℕ → Type 0 = λ new. new ≡ patched_text text c.args.lines.now (lines_at c.args.all.before.items) c.args.all.numbers.items (lines_at c.args.all.after.items) in
+    let Is : List ℕ → Type 0 = λ new. new ≡ patched_text text c.args.lines.now (lines_at c.args.before.items) c.args.numbers.items (lines_at c.args.after.items) in
     IfOk-weaker c.make.result (λ (new : List ℕ). new ≡ text) Is
-    (λ new is. is ∙ untouched text c.args.lines.now c.args.all.before.items c.args.all.after.items c.args.all.numbers.items c.requires.lines (c.is_empty.ensures.before c.if-is_empty.true) (c.is_empty.ensures.numbers c.if-is_empty.true) (c.is_empty.ensures.after c.if-is_empty.true)) c.make.ensures
+    (λ new is. is ∙ untouched text c.args.lines.now c.args.before.items c.args.after.items c.args.numbers.items c.requires.lines
+    (sym c.deref.ensures.value ∙ c.is_nothing.ensures.before c.if-is_nothing.true)
+    (sym c.deref-2.ensures.value ∙ c.is_nothing.ensures.numbers c.if-is_nothing.true) (sym c.deref-3.ensures.value ∙ c.is_nothing.ensures.after c.if-is_nothing.true)) c.make.ensures

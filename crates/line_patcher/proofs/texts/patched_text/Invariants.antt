@@ -6,4 +6,4 @@ use Rattle.line_patcher.proofs.texts.patched_text.Given as goal
 
 abbrev pub invariant-loop-place : goal.invariant-loop-place
 invariant-loop-place l =
-    l.new.items ≡ flat_map (patched_row l.text (line_end l.text l.lines.rows) (lines_at l.fn.all.before.items) l.fn.all.numbers.items (lines_at l.fn.all.after.items)) (enumerate_from 1 (take l.place l.rows))
+    l.new.items ≡ flat_map (patched_row l.text (line_end l.text l.lines.rows) (lines_at l.fn.before.items) l.fn.numbers.items (lines_at l.fn.after.items)) (enumerate_from 1 (take l.place l.rows))

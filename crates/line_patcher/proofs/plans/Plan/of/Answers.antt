@@ -4,11 +4,9 @@ use Rattle.net_model.specs.declared.rows.Network.{Network}
 use Rattle.edit_list.specs.declared.edit_kinds.Edit.{Edit}
 use Rattle.edit_list.specs.declared.list_kinds.NewList.{NewList}
 use Rattle.edit_list.specs.NewLists.{new_lists}
-use Rattle.arc_base.specs.Numbered.{placed}
 use Rattle.edit_space.specs.Working.{AreNewNames}
 use Rattle.line_patcher.specs.SessionLines.{turned_face}
 use Rattle.line_patcher.specs.NewListLines.{face_places}
-use Rattle.line_patcher.specs.EntryLines.{edited_packet_list, edited_route_list}
 use Rattle.line_patcher.proofs.Tables.{grouped_are}
 use Rattle.line_patcher.proofs.plans.Plan.of.Goals as goal
 
@@ -23,12 +21,7 @@ returns-clause-plan c =
       turned =
           grouped_are c.len-routers.result count c.deref-2.result.now (filter_map (turned_face net) chosen) c.in_ok-grouped.field-0.items c.len-routers.ensures
           (c.deref-2.ensures.value ∙ c.in_ok-turned.ensures ∙ ap (filter_map (turned_face net)) c.deref.ensures.value) c.in_ok-grouped.ensures;
-      lists = grouped_are c.len-routers.result count c.deref-3.result.now (new_lists net chosen) c.in_ok-grouped-2.field-0.items c.len-routers.ensures (c.deref-3.ensures.value ∙ c.in_ok-lists.ensures.lists) c.in_ok-grouped-2.ensures;
+      lists = grouped_are c.len-routers.result count c.deref-3.result.now (new_lists net chosen) c.in_ok-grouped-2.field-0.items c.len-routers.ensures
+          (c.deref-3.ensures.value ∙ c.in_ok-lists.ensures.lists) c.in_ok-grouped-2.ensures;
       names = subst (λ (l : List (ℕ × NewList)). AreNewNames net l c.in_ok-new_names.field-0.items) (c.deref-4.ensures.value ∙ c.in_ok-lists.ensures.lists) c.in_ok-new_names.ensures;
-      packet_lists =
-          grouped_are c.len-routers.result count c.deref-5.result.now (filter_map (edited_packet_list chosen) (placed net.packet_lists)) c.in_ok-grouped-3.field-0.items c.len-routers.ensures
-          (c.deref-5.ensures.value ∙ c.in_ok-packets.ensures) c.in_ok-grouped-3.ensures;
-      route_lists =
-          grouped_are c.len-routers.result count c.deref-6.result.now (filter_map (edited_route_list chosen) (placed net.route_lists)) c.in_ok-grouped-4.field-0.items c.len-routers.ensures
-          (c.deref-6.ensures.value ∙ c.in_ok-routes.ensures) c.in_ok-grouped-4.ensures;
     }
