@@ -1,5 +1,6 @@
 -- How many edits there are, and what the lister knows of sessions.
-use Rattle.std.proofs.Common.{◌≡◌, ℕ, zero, suc, ◌+◌, ◌*◌, ◌^◌, ◌<◌, ◌≤◌, ◌==◌, ◌||◌, Bool, true, false, Option, Some, None, is_some, List, [], ◌∷◌, ◌++◌, length, get_or, map, find, refl, sym, ◌∙◌, ap, arith, length-append, if◌then◌else◌, mul-le-mul}
+use Rattle.std.proofs.Common.{◌≡◌, ℕ, zero, suc, ◌+◌, ◌*◌, ◌^◌, ◌<◌, ◌≤◌, ◌==◌, ◌||◌, Bool, true, false, Option, Some, None}
+use Rattle.std.proofs.Common.{is_some, List, [], ◌∷◌, ◌++◌, length, get_or, map, find, refl, sym, ◌∙◌, ap, arith, length-append, if◌then◌else◌, mul-le-mul}
 use Rattle.std.specs.Prelude.{All}
 use Rattle.std.specs.List.{filter_map, flat_map, cons_option, list_any, range_with_len, zip}
 use Rattle.std.proofs.lemmas.Bool.{eqb-true}
@@ -50,7 +51,8 @@ few_one : {X : Type 0} (x : ℕ × X) (xs : List (ℕ × X)) (start count : ℕ)
 few_one x xs start zero = (omega arith, λ h. omega arith)
 few_one {X} x xs start (suc count) = by (x.0 == start) refl (few_one x xs (start + 1) count)
   where
-    split : (things : List (ℕ × X)) → length (flat_map (λ k. of_number k things) (range_with_len start (suc count))) ≡ length (of_number start things) + length (flat_map (λ k. of_number k things) (range_with_len (start + 1) count))
+    split : (things : List (ℕ × X)) → length (flat_map (λ k. of_number k things) (range_with_len start (suc count))) ≡ length (of_number start things) + length
+        (flat_map (λ k. of_number k things) (range_with_len (start + 1) count))
     split things = length-append (of_number start things) (flat_map (λ k. of_number k things) (range_with_len (start + 1) count))
 
     here : (b : Bool) → (x.0 == start) ≡ b → length (of_number start (x ∷ xs)) ≡ length (cons_option (if b then Some x.1 else None) (of_number start xs))
@@ -70,13 +72,19 @@ few_one {X} x xs start (suc count) = by (x.0 == start) refl (few_one x xs (start
 no_groups : {X : Type 0} (things : List (ℕ × X)) (start count : ℕ) → things ≡ [] → length (flat_map (λ k. of_number k things) (range_with_len start count)) ≤ 0
 no_groups things start zero none = omega arith
 no_groups {X} things start (suc count) none =
-    omega (arith, length-append (of_number start things) (flat_map (λ k. of_number k things) (range_with_len (start + 1) count)), ap (λ (l : List (ℕ × X)). length (of_number start l)) none, no_groups things (start + 1) count none)
+    omega (
+      arith,
+      length-append (of_number start things) (flat_map (λ k. of_number k things) (range_with_len (start + 1) count)),
+      ap (λ (l : List (ℕ × X)). length (of_number start l)) none,
+      no_groups things (start + 1) count none,
+    )
 
 pub few_by_number : {X : Type 0} (count : ℕ) (things : List (ℕ × X)) → length (by_number count things) ≤ length things
 few_by_number count [] = no_groups [] 0 count refl
 few_by_number count (x ∷ xs) = omega (arith, (few_one x xs 0 count).0, few_by_number count xs)
 
-pub few_sites : {X : Type 0} (count : ℕ) (things all more : List (ℕ × X)) (sites : List X) → sites ≡ by_number count things → things ≡ all ++ more → length all < 2 ^ 32 → length more < 2 ^ 32 → length sites < 2 ^ 33
+pub few_sites : {X : Type 0} (count : ℕ) (things all more : List (ℕ × X)) (sites : List X) → sites ≡ by_number count things → things ≡ all ++ more →
+    length all < 2 ^ 32 → length more < 2 ^ 32 → length sites < 2 ^ 33
 few_sites count things all more sites are joined l m = omega (arith, ap length are, few_by_number count things, ap length joined, length-append all more, l, m)
 
 -- no more classes can be written than there are
@@ -90,7 +98,8 @@ edits_at_sites edit (s ∷ sites) things =
     length-append (map (edit s) things) (flat_map (λ site. map (edit site) things) sites) ∙ grind (arith, length-map things (edit s), edits_at_sites edit sites things)
 
 pub all_counted : (net : Network) (destinations : List Prefix) (classes : List Class) (sessions routes packets : ℕ) → sessions ≡ length (flat_map (link_edits net) net.links) →
-    routes ≡ length (route_sites net) → packets ≡ length (packet_sites net) → length (all_edits net destinations classes) ≡ sessions + routes * length destinations + packets * length (writable_classes classes)
+    routes ≡ length (route_sites net) → packets ≡ length (packet_sites net) →
+    length (all_edits net destinations classes) ≡ sessions + routes * length destinations + packets * length (writable_classes classes)
 all_counted net destinations classes sessions routes packets is_sessions is_routes is_packets =
     let first : List Edit = flat_map (link_edits net) net.links in
     let second : List Edit = flat_map (λ site. map (route_edit site) destinations) (route_sites net) in
@@ -101,8 +110,10 @@ all_counted net destinations classes sessions routes packets is_sessions is_rout
     edits_at_sites packet_edit (packet_sites net) (writable_classes classes) ∙ ap (λ n. n * length (writable_classes classes)) (sym is_packets) in
     joined ∙ ap (λ n. n + length second + length third) (sym is_sessions) ∙ ap (λ n. sessions + n + length third) at_routes ∙ ap (λ n. sessions + routes * length destinations + n) at_packets
 
-pub counted_all : (net : Network) (destinations : List Prefix) (classes : List Class) (sessions routes prefixes packets kinds : ℕ) → sessions ≡ length (flat_map (link_edits net) net.links) → routes ≡ length (route_sites net) →
-    prefixes ≡ length destinations → packets ≡ length (packet_sites net) → kinds ≡ length (writable_classes classes) → length (all_edits net destinations classes) ≡ sessions + routes * prefixes + packets * kinds
+pub counted_all : (net : Network) (destinations : List Prefix) (classes : List Class) (sessions routes prefixes packets kinds : ℕ) →
+    sessions ≡ length (flat_map (link_edits net) net.links) → routes ≡ length (route_sites net) →
+    prefixes ≡ length destinations → packets ≡ length (packet_sites net) → kinds ≡ length (writable_classes classes) →
+    length (all_edits net destinations classes) ≡ sessions + routes * prefixes + packets * kinds
 counted_all net destinations classes sessions routes prefixes packets kinds is_sessions is_routes is_prefixes is_packets is_kinds =
     all_counted net destinations classes sessions routes packets is_sessions is_routes is_packets ∙ ap (λ n. sessions + routes * n + packets * length (writable_classes classes)) (sym is_prefixes) ∙
     ap (λ n. sessions + routes * prefixes + packets * n) (sym is_kinds)
@@ -123,21 +134,25 @@ few_packet_sites things all more sites lists faces few_lists few_faces is_all is
     few_sites count things all more sites are joined (omega (arith, ap length is_all, few_picked packet_list_site (placed lists), few_placed lists, few_lists))
     (omega (arith, ap length is_more, few_picked face_site (placed faces), few_placed faces, few_faces))
 
-pub few_new_lists : {X : Type 0} (h : SessionRow → Option X) (g : ℕ × FaceRow → Option X) (things all more : List X) (sessions : List SessionRow) (faces : List FaceRow) → length sessions < 2 ^ 32 → length faces < 2 ^ 32 →
+pub few_new_lists : {X : Type 0} (h : SessionRow → Option X) (g : ℕ × FaceRow → Option X) (things all more : List X) (sessions : List SessionRow) (faces : List FaceRow) →
+    length sessions < 2 ^ 32 → length faces < 2 ^ 32 →
     all ≡ filter_map h sessions → more ≡ filter_map g (placed faces) → things ≡ all ++ more → length things < 2 ^ 33
 few_new_lists h g things all more sessions faces few_sessions few_faces is_all is_more joined =
     omega (arith, ap length joined, length-append all more, ap length is_all, few_picked h sessions, few_sessions, ap length is_more, few_picked g (placed faces), few_placed faces, few_faces)
 
 -- the sites are put together
-pub route_sites_are : (net : Network) (things all more : List (ℕ × Site)) (sites : List Site) (lists : List RouteList) (sessions : List SessionRow) → lists ≡ net.route_lists → sessions ≡ net.sessions →
-    all ≡ map route_list_site (placed lists) → more ≡ filter_map (neighbor_site net) sessions → things ≡ all ++ more → (count : ℕ) → count ≡ length net.routers → sites ≡ by_number count things → sites ≡ route_sites net
+pub route_sites_are : (net : Network) (things all more : List (ℕ × Site)) (sites : List Site) (lists : List RouteList) (sessions : List SessionRow) →
+    lists ≡ net.route_lists → sessions ≡ net.sessions →
+    all ≡ map route_list_site (placed lists) → more ≡ filter_map (neighbor_site net) sessions → things ≡ all ++ more → (count : ℕ) →
+    count ≡ length net.routers → sites ≡ by_number count things → sites ≡ route_sites net
 route_sites_are net things all more sites lists sessions same_lists same_sessions is_all is_more joined count counted are =
     are ∙ ap (λ n. by_number n things) counted ∙
     ap (by_number (length net.routers)) (joined ∙ ap (λ l. l ++ more) (is_all ∙ ap (λ l. map route_list_site (placed l)) same_lists) ∙
     ap (λ l. map route_list_site (placed net.route_lists) ++ l) (is_more ∙ ap (filter_map (neighbor_site net)) same_sessions))
 
 pub packet_sites_are : (net : Network) (things all more : List (ℕ × Site)) (sites : List Site) (lists : List PacketList) (faces : List FaceRow) → lists ≡ net.packet_lists → faces ≡ net.faces →
-    all ≡ filter_map packet_list_site (placed lists) → more ≡ filter_map face_site (placed faces) → things ≡ all ++ more → (count : ℕ) → count ≡ length net.routers → sites ≡ by_number count things → sites ≡ packet_sites net
+    all ≡ filter_map packet_list_site (placed lists) → more ≡ filter_map face_site (placed faces) → things ≡ all ++ more → (count : ℕ) →
+    count ≡ length net.routers → sites ≡ by_number count things → sites ≡ packet_sites net
 packet_sites_are net things all more sites lists faces same_lists same_faces is_all is_more joined count counted are =
     are ∙ ap (λ n. by_number n things) counted ∙
     ap (by_number (length net.routers)) (joined ∙ ap (λ l. l ++ more) (is_all ∙ ap (λ l. filter_map packet_list_site (placed l)) same_lists) ∙
@@ -158,7 +173,8 @@ some_session (s ∷ sessions) k = by (s.face.0 == k) (some_session sessions k)
     by true e = refl
     by false e = e
 
-pub knows_sessions : (net : Network) (count : ℕ) (faces : List ℕ) (flags : List Bool) → faces ≡ map (λ s. s.face.0) net.sessions → IsTableOf count (λ k. list_any (λ n. n == k) faces) flags → KnowsSessions net flags
+pub knows_sessions : (net : Network) (count : ℕ) (faces : List ℕ) (flags : List Bool) → faces ≡ map (λ s. s.face.0) net.sessions →
+    IsTableOf count (λ k. list_any (λ n. n == k) faces) flags → KnowsSessions net flags
 knows_sessions net count faces flags are told face within =
     let counted : face.0 < count = omega (arith, within, ap length told, length-map-range_with_len (λ k. list_any (λ n. n == k) faces) 0 count) in
     slice_get-get_or flags face.0 false within ∙

@@ -5,3 +5,6 @@ pub mod Placing
 pub mod NewListFacts
 pub mod RowFacts
 pub mod OneEditList
+pub mod Apart
+pub mod EditsFrom
+pub mod EditsApart

@@ -24,7 +24,8 @@ pub picked_from : {X Y : Type 0} (h : X → Option Y) (xs : List X) (y : Y) → 
 picked_from h [] y there = absurd (Contains-none y there)
 picked_from {X} {Y} h (x ∷ xs) y there = by (h x) refl (λ later. picked_from h xs y later) there
   where
-    by : (o : Option Y) → h x ≡ o → (Contains (filter_map h xs) y → (z : X) × Contains xs z × (h z ≡ Some y)) → Contains (cons_option o (filter_map h xs)) y → (z : X) × Contains (x ∷ xs) z × (h z ≡ Some y)
+    by : (o : Option Y) → h x ≡ o → (Contains (filter_map h xs) y → (z : X) × Contains xs z × (h z ≡ Some y)) → Contains (cons_option o (filter_map h xs)) y →
+        (z : X) × Contains (x ∷ xs) z × (h z ≡ Some y)
     by None e rest h = let r = rest h in (r.0, Contains-tail x r.0 xs r.1, r.2)
     by (Some z) e rest h = elim (Contains-cases z y (filter_map _ xs) h) [
       | inl same ↦ (x, Contains-head x xs, e ∙ ap Some same)
@@ -44,7 +45,8 @@ picks {X} {Y} h (z ∷ xs) x y there e = elim (Contains-cases z x xs there) [
     put (Some w) k = Contains-tail w y (filter_map h xs) k
 
 -- what holds of pairs of items holds of what is picked of them
-pub pairs_picked : {X Y : Type 0} (R : X → X → Type 0) (S : Y → Y → Type 0) (h : X → Option Y) (xs : List X) → ((x z : X) (y w : Y) → R x z → h x ≡ Some y → h z ≡ Some w → S y w) → AllPairs R xs → AllPairs S (filter_map h xs)
+pub pairs_picked : {X Y : Type 0} (R : X → X → Type 0) (S : Y → Y → Type 0) (h : X → Option Y) (xs : List X) →
+    ((x z : X) (y w : Y) → R x z → h x ≡ Some y → h z ≡ Some w → S y w) → AllPairs R xs → AllPairs S (filter_map h xs)
 pairs_picked R S h [] along all = AllPairs-none S
 pairs_picked {X} {Y} R S h (x ∷ xs) along all = by (h x) refl (pairs_picked R S h xs along (AllPairs-rest R x xs all))
   where

@@ -25,7 +25,8 @@ one_host net valid p h g (k, face, within, at, (is_h, in_h)) (n, other, below, t
     same_Some h g (sym is_h ∙ ap (λ (f : FaceRow). f.host) (one_host_face net valid p face other first second) ∙ is_g)
 
 module _ (net : Network) (valid : IsValid net) where
-  same_hosts : (policies : List Policy) (xs ys : List Prefix) → AllZip (λ policy host. LiesInHost net policy.to host) policies xs → AllZip (λ policy host. LiesInHost net policy.to host) policies ys → xs ≡ ys
+  same_hosts : (policies : List Policy) (xs ys : List Prefix) → AllZip (λ policy host. LiesInHost net policy.to host) policies xs →
+      AllZip (λ policy host. LiesInHost net policy.to host) policies ys → xs ≡ ys
   same_hosts [] [] [] x y = refl
   same_hosts [] [] (h ∷ hs) x y = absurd y
   same_hosts [] (h ∷ hs) ys x y = absurd x

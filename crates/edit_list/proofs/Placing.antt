@@ -34,7 +34,8 @@ pub placed_all : {X Y : Type 0} (h : ℕ × X → Option Y) (xs : List X) (i : �
 placed_all h xs i now past was = was ∙ ap (filter_map h) (take_all i (placed xs) (omega (arith, past, placed_length xs)))
 
 -- the same where each item gives one
-pub placed_mapped : {X Y : Type 0} (f : ℕ × X → Y) (xs : List X) (i : ℕ) (x : X) (now next : List Y) (y : Y) → i < length xs → x ≡ get_or xs i x → y ≡ f (i, x) → now ≡ map f (take i (placed xs)) → next ≡ now ++ y ∷ [] →
+pub placed_mapped : {X Y : Type 0} (f : ℕ × X → Y) (xs : List X) (i : ℕ) (x : X) (now next : List Y) (y : Y) → i < length xs → x ≡ get_or xs i x →
+    y ≡ f (i, x) → now ≡ map f (take i (placed xs)) → next ≡ now ++ y ∷ [] →
     next ≡ map f (take (i + 1) (placed xs))
 placed_mapped f xs i x now next y within is one was grown =
     grown ∙ ap (λ l. l ++ y ∷ []) was ∙ ap (λ z. map f (take i (placed xs)) ++ z ∷ []) (one ∙ ap f (placed_at xs i x within is)) ∙

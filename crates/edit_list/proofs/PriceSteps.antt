@@ -37,6 +37,7 @@ price_more weights edits flags i edit flag sum cost within same is_edit is_flag 
     sym (sum_by-append (weight weights) (filter_map if_chosen (take i (zip edits flags))) (cons_option (if_chosen (edit, flag)) [])) ∙
     ap (price_of weights) (sym (picked_more if_chosen (zip edits flags) i (edit, flag) long is))
 
-pub price_all : (weights : Weights) (edits : List Edit) (flags : List Bool) (i sum : ℕ) → length edits ≤ i → length flags ≡ length edits → sum ≡ price_of weights (filter_map if_chosen (take i (zip edits flags))) →
+pub price_all : (weights : Weights) (edits : List Edit) (flags : List Bool) (i sum : ℕ) → length edits ≤ i → length flags ≡ length edits →
+    sum ≡ price_of weights (filter_map if_chosen (take i (zip edits flags))) →
     sum ≡ price_of weights (chosen_of edits flags)
 price_all weights edits flags i sum past same was = was ∙ ap (λ l. price_of weights (filter_map if_chosen l)) (take_all i (zip edits flags) (omega (arith, past, pairs_length edits flags same)))

@@ -61,7 +61,8 @@ module _ {X Y : Type 0} (H : ℕ → X → Y → Type 0) (xs : List X) (ys : Lis
           let i = item_of ys k within in
           let r = row_was k i.0 i.1 in
           let there : k < length xs = slice_get_within xs k r.0 r.1 in
-          get_or-map g ys k i.0 d within ∙ ap g (get_or_from_slice_get ys k i.0 i.0 i.1) ∙ same k r.0 i.0 r.2 ∙ ap f (sym (get_or_from_slice_get xs k r.0 r.0 r.1)) ∙ sym (get_or-map f xs k r.0 d there)
+          get_or-map g ys k i.0 d within ∙ ap g (get_or_from_slice_get ys k i.0 i.0 i.1) ∙ same k r.0 i.0 r.2 ∙ ap f (sym (get_or_from_slice_get xs k r.0 r.0 r.1))
+          ∙ sym (get_or-map f xs k r.0 d there)
 
 -- how many have a number depends on the numbers alone
 pub count_numbers : {X : Type 0} (f : X → ℕ) (number : ℕ) (xs : List X) → count_by (λ x. f x == number) xs ≡ count_by (λ n. n == number) (map f xs)

@@ -1,8 +1,8 @@
 //! The destinations of policies.
-ghost use Rattle.std.specs.Prelude.{◌≡◌, ◌≤◌, length, All, IfOk, OnOk};
-ghost use Rattle.std.specs.List.{list_any};
-ghost use Rattle.net_model.specs.Forwarding.{HasHost};
 ghost use Rattle.edit_list.specs.EditLists.{LiesInHost, is_same, with_prefix, AreDestinations};
+ghost use Rattle.net_model.specs.Forwarding.{HasHost};
+ghost use Rattle.std.specs.List.{list_any};
+ghost use Rattle.std.specs.Prelude.{◌≡◌, ◌≤◌, length, All, IfOk, OnOk};
 
 use arc_base::{List, Memory, Prefix};
 use net_model::{Network, Policy};

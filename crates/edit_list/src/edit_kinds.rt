@@ -45,8 +45,8 @@ impl From<Memory> for EditFault {
 }
 
 impl From<ClassFault> for EditFault {
-    ghost use Rattle.std.specs.Prelude.{◌≡◌};
     ghost use Rattle.edit_list.specs.EditLists.{fault_of};
+    ghost use Rattle.std.specs.Prelude.{◌≡◌};
 
     ghost from_gives = { λ fault e. e ≡ fault_of fault };
 

@@ -1,6 +1,6 @@
 //! The edits that are chosen, and what they cost.
-ghost use Rattle.std.specs.Prelude.{◌≡◌, ◌<◌, length, IfOk};
 ghost use Rattle.edit_list.specs.Prices.{if_chosen, chosen_of, weight, cost_of, price_of, none_of};
+ghost use Rattle.std.specs.Prelude.{◌≡◌, ◌<◌, length, IfOk};
 
 use crate::edit_kinds::Edit;
 use arc_base::{List, Memory};

@@ -1,9 +1,9 @@
 //! Where entries can be added.
-ghost use Rattle.std.specs.Prelude.{◌≡◌, ◌<◌, ◌^◌, length, map, IfOk};
-ghost use Rattle.std.specs.List.{filter_map};
 ghost use Rattle.arc_base.specs.Numbered.{placed};
 ghost use Rattle.edit_list.specs.Sites.{route_list_site, neighbor_site, packet_list_site};
 ghost use Rattle.edit_list.specs.Sites.{face_site, route_sites, packet_sites};
+ghost use Rattle.std.specs.List.{filter_map};
+ghost use Rattle.std.specs.Prelude.{◌≡◌, ◌<◌, ◌^◌, length, map, IfOk};
 
 use arc_base::groups::{append, by_number};
 use arc_base::{Face, ListId, Memory};

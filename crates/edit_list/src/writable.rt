@@ -1,7 +1,7 @@
 //! The classes for which one entry of a packet list can speak.
-ghost use Rattle.std.specs.Prelude.{◌≡◌, IfOk};
 ghost use Rattle.edit_list.specs.EditLists.{writable_classes};
 ghost use Rattle.edit_list.specs.Writable.{is_writable};
+ghost use Rattle.std.specs.Prelude.{◌≡◌, IfOk};
 
 use arc_base::Memory;
 use net_model::{Class, Service};

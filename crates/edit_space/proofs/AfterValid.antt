@@ -1,5 +1,6 @@
 -- The network after edits is valid.
-use Rattle.std.proofs.Common.{◌≡◌, ◌≢◌, ℕ, ◌<◌, ◌≤◌, ◌==◌, ◌⊎◌, inl, inr, Bool, true, false, not, ◌||◌, Option, Some, None, List, [], ◌∷◌, length, get_or, map, IsTrue, refl, sym, ◌∙◌, ap, subst, arith}
+use Rattle.std.proofs.Common.{◌≡◌, ◌≢◌, ℕ, ◌<◌, ◌≤◌, ◌==◌, ◌⊎◌, inl, inr, Bool, true, false, not, ◌||◌, Option}
+use Rattle.std.proofs.Common.{Some, None, List, [], ◌∷◌, length, get_or, map, IsTrue, refl, sym, ◌∙◌, ap, subst, arith}
 use Rattle.std.specs.Prelude.{AllPairs, Any, Contains, IfSome, IsSomeAnd, IsFalse, MatchBool, slice_get, count_by}
 use Rattle.std.proofs.lemmas.Bool.{or_left, or_right}
 use Rattle.std.proofs.lemmas.List.Elements.{All-contains}
@@ -17,13 +18,15 @@ use Rattle.net_model.specs.declared.rows.LinkRow.{LinkRow}
 use Rattle.net_model.specs.declared.rows.RouterRow.{RouterRow}
 use Rattle.net_model.specs.declared.rows.SessionRow.{SessionRow}
 use Rattle.net_model.specs.declared.rows.Network.{Network}
-use Rattle.net_model.specs.Validity.{EndsAt, IsLinkEnd, AreLinked, AreApart, AreLinksApart, AreSessionsApart, FitsProtocol, IsValid, IsValidFace, IsValidLink, IsValidSession, IsValidPacketList, IsValidRouteList}
+use Rattle.net_model.specs.Validity.{EndsAt, IsLinkEnd, AreLinked, AreApart, AreLinksApart, AreSessionsApart}
+use Rattle.net_model.specs.Validity.{FitsProtocol, IsValid, IsValidFace, IsValidLink, IsValidSession, IsValidPacketList, IsValidRouteList}
 use Rattle.arc_base.specs.NameForms.{IsName, IsFaceName}
 use Rattle.net_model.proofs.Readings.{item_at_place}
 use Rattle.edit_list.specs.declared.edit_kinds.Edit.{Edit}
 use Rattle.edit_list.specs.declared.list_kinds.NewList.{NewList}
 use Rattle.edit_list.specs.Changes.{new_classes, new_prefixes}
-use Rattle.edit_list.specs.After.{edited_packet_list, edited_route_list, IsNewPacketList, IsNewRouteList, IsPacketListAfter, IsRouteListAfter, StaysBound, IsRouterAfter, IsFaceAfter, IsSessionAfter, passive_after, IsAfter}
+use Rattle.edit_list.specs.After.{edited_packet_list, edited_route_list, IsNewPacketList, IsNewRouteList, IsPacketListAfter, IsRouteListAfter}
+use Rattle.edit_list.specs.After.{StaysBound, IsRouterAfter, IsFaceAfter, IsSessionAfter, passive_after, IsAfter}
 use Rattle.edit_list.specs.NewLists.{new_names_of, IsNewList}
 use Rattle.arc_base.specs.Numbered.{is_empty}
 use Rattle.edit_list.specs.Ordered.{IsKeyBefore}
@@ -92,9 +95,11 @@ module _ (net : Network) (valid : IsValid net) (chosen : List Edit) (after : Net
       let subnet : now.subnet ≡ was.subnet = ap (λ (x : FaceRow). x.subnet) f.same in
       record {
         router = omega (arith, v.router, is.routers.whole, same_router f);
-        list_in = bound_within net.packet_lists after.packet_lists (edited_packet_list chosen) (IsNewPacketList net chosen (record { 0 = place })) (is_empty (new_classes chosen place)) was.bound_in now.bound_in was.list_in now.list_in f.bound_in v.list_in f.list_in;
+        list_in = bound_within net.packet_lists after.packet_lists (edited_packet_list chosen) (IsNewPacketList net chosen (record { 0 = place }))
+            (is_empty (new_classes chosen place)) was.bound_in now.bound_in was.list_in now.list_in f.bound_in v.list_in f.list_in;
         list_out = stays_within net.packet_lists after.packet_lists (edited_packet_list chosen) was.list_out now.list_out f.list_out;
-        host = subst (λ (s : Option Prefix). HostFits place now.host s) (sym subnet) (subst (λ (h : Option Prefix). HostFits place h was.subnet) (sym host) (host_fits place was.host was.subnet v.host));
+        host = subst (λ (s : Option Prefix). HostFits place now.host s) (sym subnet)
+            (subst (λ (h : Option Prefix). HostFits place h was.subnet) (sym host) (host_fits place was.host was.subnet v.host));
         cost_low = subst (λ (n : ℕ). 1 ≤ n) (sym (ap (λ (x : FaceRow). x.cost) f.same)) v.cost_low;
         cost_high = subst (λ (n : ℕ). n ≤ 65535) (sym (ap (λ (x : FaceRow). x.cost) f.same)) v.cost_high;
         name = subst IsFaceName (sym (ap (λ (x : FaceRow). x.name) f.same)) v.name;
@@ -119,10 +124,12 @@ module _ (net : Network) (valid : IsValid net) (chosen : List Edit) (after : Net
       record {
         face = omega (arith, v.face, is.faces.whole, face);
         link_end = subst (λ (k : ℕ). IsLinkEnd after k) (sym face) (subst (λ (l : List LinkRow). Any (λ link. EndsAt link was.face.0) l) (sym is.links) v.link_end);
-        filter = bound_within net.route_lists after.route_lists (edited_route_list chosen) (IsNewRouteList net chosen was.face) (is_empty (new_prefixes chosen was.face.0)) was.bound now.bound was.filter now.filter s.bound v.filter s.filter;
+        filter = bound_within net.route_lists after.route_lists (edited_route_list chosen) (IsNewRouteList net chosen was.face)
+            (is_empty (new_prefixes chosen was.face.0)) was.bound now.bound was.filter now.filter s.bound v.filter s.filter;
       }
 
-  sessions_apart : (i j : ℕ) (s t : SessionRow) (x y : SessionRow) → IsSessionAfter net chosen after i s x → IsSessionAfter net chosen after j t y → AreSessionsApart net s t → AreSessionsApart after x y
+  sessions_apart : (i j : ℕ) (s t : SessionRow) (x y : SessionRow) → IsSessionAfter net chosen after i s x → IsSessionAfter net chosen after j t y →
+      AreSessionsApart net s t → AreSessionsApart after x y
   sessions_apart i j s t x y this that h = (λ e. h.0 (sym (face_of s x i this) ∙ e ∙ face_of t y j that), peers)
     where
       face_of : (s x : SessionRow) (i : ℕ) → IsSessionAfter net chosen after i s x → x.face.0 ≡ s.face.0
@@ -206,16 +213,22 @@ module _ (net : Network) (valid : IsValid net) (chosen : List Edit) (after : Net
     few_routers = omega (arith, valid.few_routers, is.routers.whole);
     few_links = subst (λ (l : List LinkRow). length l ≤ 1024) (sym is.links) valid.few_links;
     few_faces = few_faces;
-    router_names = rows_all (IsRouterAfter net chosen) net.routers after.routers is.routers (λ (r : RouterRow). IsName r.name) (λ (r : RouterRow). IsName r.name) (λ k was now h v. subst IsName (sym h.name) v) valid.router_names;
-    routers_named_apart = rows_pairs (IsRouterAfter net chosen) net.routers after.routers is.routers (λ (r : RouterRow) (s : RouterRow). r.name ≢ s.name) (λ (r : RouterRow) (s : RouterRow). r.name ≢ s.name)
+    router_names = rows_all (IsRouterAfter net chosen) net.routers after.routers is.routers (λ (r : RouterRow). IsName r.name) (λ (r : RouterRow). IsName r.name)
+        (λ k was now h v. subst IsName (sym h.name) v) valid.router_names;
+    routers_named_apart = rows_pairs (IsRouterAfter net chosen) net.routers after.routers is.routers (λ (r : RouterRow) (s : RouterRow). r.name ≢ s.name)
+        (λ (r : RouterRow) (s : RouterRow). r.name ≢ s.name)
         (λ i j x z y w h k differ e. differ (sym h.name ∙ e ∙ k.name)) valid.routers_named_apart;
-    faces_named_apart = rows_pairs (IsFaceAfter net chosen after) net.faces after.faces is.faces (λ (f : FaceRow) (g : FaceRow). f.router.0 ≡ g.router.0 → f.name ≢ g.name) (λ (f : FaceRow) (g : FaceRow). f.router.0 ≡ g.router.0 → f.name ≢ g.name)
-        (λ i j x z y w h k differ routers names. differ (sym (same_router h) ∙ routers ∙ same_router k) (sym (ap (λ (f : FaceRow). f.name) h.same) ∙ names ∙ ap (λ (f : FaceRow). f.name) k.same)) valid.faces_named_apart;
+    faces_named_apart = rows_pairs (IsFaceAfter net chosen after) net.faces after.faces is.faces (λ (f : FaceRow) (g : FaceRow). f.router.0 ≡ g.router.0 → f.name ≢ g.name)
+        (λ (f : FaceRow) (g : FaceRow). f.router.0 ≡ g.router.0 → f.name ≢ g.name)
+        (λ i j x z y w h k differ routers names. differ (sym (same_router h) ∙ routers ∙ same_router k)
+        (sym (ap (λ (f : FaceRow). f.name) h.same) ∙ names ∙ ap (λ (f : FaceRow). f.name) k.same)) valid.faces_named_apart;
     packet_lists = All-from (IsValidPacketList after) after.packet_lists (λ l there. valid_packet_list l ((is.packet_lists l).0 there));
-    packet_lists_named_apart = AllPairs-among (λ (l : PacketList) (m : PacketList). IsKeyBefore (l.router.0, l.name) (m.router.0, m.name)) (λ (l : PacketList) (m : PacketList). l.router.0 ≡ m.router.0 → l.name ≢ m.name) after.packet_lists
+    packet_lists_named_apart = AllPairs-among (λ (l : PacketList) (m : PacketList). IsKeyBefore (l.router.0, l.name) (m.router.0, m.name))
+        (λ (l : PacketList) (m : PacketList). l.router.0 ≡ m.router.0 → l.name ≢ m.name) after.packet_lists
         (λ l m in_l in_m before. names_differ l.router.0 m.router.0 l.name m.name before) is.packet_order;
     route_lists = All-from (IsValidRouteList after) after.route_lists (λ l there. valid_route_list l ((is.route_lists l).0 there));
-    route_lists_named_apart = AllPairs-among (λ (l : RouteList) (m : RouteList). IsKeyBefore (l.router.0, l.name) (m.router.0, m.name)) (λ (l : RouteList) (m : RouteList). l.router.0 ≡ m.router.0 → l.name ≢ m.name) after.route_lists
+    route_lists_named_apart = AllPairs-among (λ (l : RouteList) (m : RouteList). IsKeyBefore (l.router.0, l.name) (m.router.0, m.name))
+        (λ (l : RouteList) (m : RouteList). l.router.0 ≡ m.router.0 → l.name ≢ m.name) after.route_lists
         (λ l m in_l in_m before. names_differ l.router.0 m.router.0 l.name m.name before) is.route_order;
     protocol = subst (λ (q : Protocol). FitsProtocol q after) (sym is.protocol) (fits net.protocol refl valid.protocol);
   }

@@ -1,5 +1,6 @@
 -- The names for new lists: they are found, they differ, and they have the form of names.
-use Rattle.std.proofs.Common.{◌≡◌, ◌≢◌, ℕ, ◌+◌, ◌%◌, ◌^◌, ◌<◌, ◌≤◌, ◌||◌, Bool, true, false, not, List, [], ◌∷◌, ◌++◌, length, get_or, take, map, filter, cond, refl, sym, ◌∙◌, ap, subst, arith, codes, decimal, IsTrue, le-leb, length-append, drop, take-append-drop, ◌==◌, ◌&&◌, nat_le, get_or-take}
+use Rattle.std.proofs.Common.{◌≡◌, ◌≢◌, ℕ, ◌+◌, ◌%◌, ◌^◌, ◌<◌, ◌≤◌, ◌||◌, Bool, true, false, not, List, [], ◌∷◌, ◌++◌, length, get_or, take}
+use Rattle.std.proofs.Common.{map, filter, cond, refl, sym, ◌∙◌, ap, subst, arith, codes, decimal, IsTrue, le-leb, length-append, drop, take-append-drop, ◌==◌, ◌&&◌, nat_le, get_or-take}
 use Rattle.std.specs.Prelude.{Contains, AllPairs}
 use Rattle.std.specs.List.{range_with_len, AllByRecursion}
 use Rattle.std.specs.Char.{is_ascii_digit}

@@ -56,7 +56,8 @@ same_from_equal x y equal =
       | inr (inr greater) ↦ absurd (equal_or (compare_keys x y) equal (sym (ap (λ o. ordering_then o (slice_cmp nat_cmp x.1 y.1)) greater)))
     ]
 
-module _ (xs sorted : List Keyed) (moved : IsPermutation xs sorted) (up : IsSortedBy (λ x y. is_lt (compare_keys (key_of x) (key_of y))) sorted) (apart : AllPairs (λ x y. key_of x ≢ key_of y) xs) where
+module _ (xs sorted : List Keyed) (moved : IsPermutation xs sorted) (up : IsSortedBy (λ x y. is_lt (compare_keys (key_of x) (key_of y))) sorted)
+    (apart : AllPairs (λ x y. key_of x ≢ key_of y) xs) where
   not_equal : (o : Ordering) → (o ≡ Equal → ⊥) → is_eq o ≡ false
   not_equal Less h = refl
   not_equal Equal h = absurd (h refl)

@@ -7,7 +7,7 @@ mod Picking
 pub mod NamedFacts
 pub mod ListKinds
 mod ListPlaces
-mod Bound
+pub mod Bound
 mod Whole
 mod AfterValid
 mod Sorting

@@ -64,7 +64,8 @@ one_router {net} K r s f m n this that =
     a.2 ∙ ap (λ (row : FaceRow). row.router.0) (one_item net.faces f.0 a.0 b.0 a.1 b.1) ∙ sym b.2
 
 -- a new list stands where its key is to stand
-pub made_for : {net : Network} {chosen : List Edit} (K : ListsOfKind net chosen) (key : Keyed) (f : Face) → key.site ≡ New f → IsNewList net chosen key.router (K.new f) key.name → (list : K.Row) × K.IsNew f list × K.IsFor key list
+pub made_for : {net : Network} {chosen : List Edit} (K : ListsOfKind net chosen) (key : Keyed) (f : Face) → key.site ≡ New f →
+    IsNewList net chosen key.router (K.new f) key.name → (list : K.Row) × K.IsNew f list × K.IsFor key list
 made_for K key f site new =
     let one = K.made key.router f key.name new in
     (one.0, one.1, subst (λ (k : Keyed). K.IsFor k one.0) (λ j. record { router = one.2 j; name = one.3 j; site = sym site j }) (K.new_for f one.0 one.1))
@@ -124,7 +125,8 @@ module _ (net : Network) (chosen : List Edit) where
     old_for = λ id was at. record {
       router = refl;
       name = refl;
-      entries = of_some (λ (l : PacketList). (was.extended ≡ l.extended) × (with_classes was.entries (list_classes chosen id) ≡ with_classes l.entries (list_classes chosen id))) (slice_get net.packet_lists id) was at (refl, refl);
+      entries = of_some (λ (l : PacketList). (was.extended ≡ l.extended) × (with_classes was.entries (list_classes chosen id) ≡ with_classes l.entries (list_classes chosen id)))
+          (slice_get net.packet_lists id) was at (refl, refl);
     };
     IsNew = IsNewPacketList net chosen;
     named = λ f list new. new.named;

@@ -80,13 +80,15 @@ module _ {net : Network} {chosen : List Edit} (K : ListsOfKind net chosen) (vali
 
   old_there : (id : ℕ) (list : K.Row) → slice_get K.lists id ≡ Some list → Contains (keys K named) (old_key_of K (id, list))
   old_there id list at =
-      Contains-append_left (map (old_key_of K) (placed K.lists)) (filter_map (new_key_by K.face) named) (old_key_of K (id, list)) (Contains-map (old_key_of K) (placed K.lists) (id, list) (placed_there K.lists id list at))
+      Contains-append_left (map (old_key_of K) (placed K.lists)) (filter_map (new_key_by K.face) named) (old_key_of K (id, list)) (Contains-map (old_key_of K)
+      (placed K.lists) (id, list) (placed_there K.lists id list at))
 
   new_there : (router : ℕ) (face : Face) (name : List ℕ) → IsNewList net chosen router (K.new face) name → Contains (keys K named) (record { router = router; name = name; site = New face })
   new_there router face name new =
       let one : Named = record { router = router; list = K.new face; name = name } in
       Contains-append_right (map (old_key_of K) (placed K.lists)) (filter_map (new_key_by K.face) named) (new_key one face)
-      (picks (new_key_by K.face) named one (new_key one face) (new_is_named net valid chosen names named m.new_names m.are_named router (K.new face) name new) (ap (option_map (new_key one)) (K.face_is face)))
+      (picks (new_key_by K.face) named one (new_key one face) (new_is_named net valid chosen names named m.new_names m.are_named router (K.new face) name new)
+      (ap (option_map (new_key one)) (K.face_is face)))
 
   abbrev BothNew : Named → Named → Type 0
   BothNew x y = (x.list ≢ y.list) × IsNewList net chosen x.router x.list x.name × IsNewList net chosen y.router y.list y.name
@@ -96,10 +98,12 @@ module _ {net : Network} {chosen : List Edit} (K : ListsOfKind net chosen) (vali
   keys_apart =
       AllPairs-append (λ (x : Keyed) (y : Keyed). key_of x ≢ key_of y) (map (old_key_of K) (placed K.lists)) (filter_map (new_key_by K.face) named)
       (AllPairs-map (λ (x : Keyed) (y : Keyed). key_of x ≢ key_of y) (old_key_of K) (placed K.lists)
-      (AllPairs-among (λ (x : ℕ × K.Row) (y : ℕ × K.Row). K.router x.1 ≡ K.router y.1 → K.name x.1 ≢ K.name y.1) (λ (x : ℕ × K.Row) (y : ℕ × K.Row). key_of (old_key_of K x) ≢ key_of (old_key_of K y)) (placed K.lists) olds
+      (AllPairs-among (λ (x : ℕ × K.Row) (y : ℕ × K.Row). K.router x.1 ≡ K.router y.1 → K.name x.1 ≢ K.name y.1)
+      (λ (x : ℕ × K.Row) (y : ℕ × K.Row). key_of (old_key_of K x) ≢ key_of (old_key_of K y)) (placed K.lists) olds
       (placed_pairs (λ (l : K.Row) (n : K.Row). K.router l ≡ K.router n → K.name l ≢ K.name n) K.lists K.apart)))
       (pairs_picked BothNew (λ (x : Keyed) (y : Keyed). key_of x ≢ key_of y) (new_key_by K.face) named news
-      (AllPairs-among (λ (x : Named) (y : Named). x.list ≢ y.list) BothNew named (λ x y in_x in_y differ. (differ, is_new x in_x, is_new y in_y)) (named_apart net valid chosen names named m.new_names m.are_named)))
+      (AllPairs-among (λ (x : Named) (y : Named). x.list ≢ y.list) BothNew named (λ x y in_x in_y differ. (differ, is_new x in_x, is_new y in_y))
+      (named_apart net valid chosen names named m.new_names m.are_named)))
       between
     where
       olds : (x y : ℕ × K.Row) → Contains (placed K.lists) x → Contains (placed K.lists) y → (K.router x.1 ≡ K.router y.1 → K.name x.1 ≢ K.name y.1) → key_of (old_key_of K x) ≢ key_of (old_key_of K y)
@@ -113,7 +117,8 @@ module _ {net : Network} {chosen : List Edit} (K : ListsOfKind net chosen) (vali
           let router : x.router ≡ z.router = sym (ap (λ (k : Keyed). k.router) k) ∙ s.0 ∙ ap (λ (k : Keyed). k.router) l in
           let name : x.name ≡ z.name = sym (ap (λ (k : Keyed). k.name) k) ∙ s.1 ∙ ap (λ (k : Keyed). k.name) l in
           let at_router : IsNewList net chosen z.router x.list x.name = subst (λ (r : ℕ). IsNewList net chosen r x.list x.name) router new.1 in
-          new.0 (one_list net valid chosen names named m.new_names m.are_named z.router x.list z.list z.name m.few (subst (λ (n : List ℕ). IsNewList net chosen z.router x.list n) name at_router) new.2)
+          new.0 (one_list net valid chosen names named m.new_names m.are_named z.router x.list z.list z.name m.few
+          (subst (λ (n : List ℕ). IsNewList net chosen z.router x.list n) name at_router) new.2)
 
       -- a new list has a name that its router does not list
       between : (x y : Keyed) → Contains (map (old_key_of K) (placed K.lists)) x → Contains (filter_map (new_key_by K.face) named) y → key_of x ≢ key_of y
@@ -131,7 +136,8 @@ module _ {net : Network} {chosen : List Edit} (K : ListsOfKind net chosen) (vali
   one_site x y in_x in_y same = elim (key_from x in_x) [
     | inl old_x ↦ elim (key_from y in_y) [
       | inl old_y ↦
-          let ids : old_x.id ≡ old_y.id = ap (λ (k : ListId). k.0) (bound_ids (record { 0 = old_x.id }) (record { 0 = old_y.id }) (sym (ap (λ (k : Keyed). k.site) old_x.is) ∙ same ∙ ap (λ (k : Keyed). k.site) old_y.is)) in
+          let ids : old_x.id ≡ old_y.id =
+          ap (λ (k : ListId). k.0) (bound_ids (record { 0 = old_x.id }) (record { 0 = old_y.id }) (sym (ap (λ (k : Keyed). k.site) old_x.is) ∙ same ∙ ap (λ (k : Keyed). k.site) old_y.is)) in
           let lists : old_x.list ≡ old_y.list = one_item K.lists old_y.id old_x.list old_y.list (subst (λ (k : ℕ). slice_get K.lists k ≡ Some old_x.list) ids old_x.at) old_y.at in
           old_x.is ∙ (λ j. old_key_of K (ids j, lists j)) ∙ sym old_y.is
       | inr new_y ↦ absurd (other_site (record { 0 = old_x.id }) new_y.face (sym (ap (λ (k : Keyed). k.site) old_x.is) ∙ same ∙ new_y.site))
@@ -160,7 +166,9 @@ module _ {net : Network} {chosen : List Edit} (K : ListsOfKind net chosen) (vali
 
   sites_apart : AllPairs (λ x y. x.site ≢ y.site) (keys K named)
   sites_apart i j d l n same =
-      keys_apart i j d l n (ap key_of (one_site (get_or (keys K named) i d) (get_or (keys K named) j d) (i, omega (arith, l, n), get_or_default (keys K named) i (get_or (keys K named) i d) d (omega (arith, l, n))) (j, n, get_or_default (keys K named) j (get_or (keys K named) j d) d n) same))
+      keys_apart i j d l n (ap key_of
+      (one_site (get_or (keys K named) i d) (get_or (keys K named) j d) (i, omega (arith, l, n), get_or_default (keys K named) i (get_or (keys K named) i d) d (omega (arith, l, n)))
+      (j, n, get_or_default (keys K named) j (get_or (keys K named) j d) d n) same))
 
   -- so they can be put in order
   pub can_be_placed : (lists : List Keyed) (bound faces : ℕ) → lists ≡ keys K named → bound ≡ length K.lists → faces ≡ length net.faces →
@@ -169,7 +177,8 @@ module _ {net : Network} {chosen : List Edit} (K : ListsOfKind net chosen) (vali
 
   module _ (sorted : List Keyed) (order : AllPairs (λ x y. IsKeyBefore (key_of x) (key_of y)) sorted) (same : (x : Keyed) → Contains sorted x ↔ Contains (keys K named) x) where
     pub all_within : All (λ key. IsWithin (length K.lists) (length net.faces) key.site) sorted
-    all_within = All-from (λ (key : Keyed). IsWithin (length K.lists) (length net.faces) key.site) sorted (λ key there. All-contains (λ (k : Keyed). IsWithin (length K.lists) (length net.faces) k.site) (keys K named) key sites_within ((same key).0 there))
+    all_within = All-from (λ (key : Keyed). IsWithin (length K.lists) (length net.faces) key.site) sorted
+        (λ key there. All-contains (λ (k : Keyed). IsWithin (length K.lists) (length net.faces) k.site) (keys K named) key sites_within ((same key).0 there))
 
     module _ (lists : List K.Row) (rows : EachRow (λ place. K.IsFor) sorted lists) where
       -- the list that stands where an old one is to stand is that one, edited
@@ -209,7 +218,8 @@ module _ {net : Network} {chosen : List Edit} (K : ListsOfKind net chosen) (vali
 
       -- a new list stands where its key stands
       new_stands : (router : ℕ) (face : Face) (name : List ℕ) → IsNewList net chosen router (K.new face) name →
-          (k : ℕ) × (slice_get sorted k ≡ Some (record { router = router; name = name; site = New face })) × ((list : K.Row) × (slice_get lists k ≡ Some list) × K.IsFor (record { router = router; name = name; site = New face }) list)
+          (k : ℕ) × (slice_get sorted k ≡ Some (record { router = router; name = name; site = New face })) × ((list : K.Row) × (slice_get lists k ≡ Some list) × K.IsFor
+          (record { router = router; name = name; site = New face }) list)
       new_stands router face name new =
           let key : Keyed = record { router = router; name = name; site = New face } in
           let p : (k : ℕ) × (slice_get sorted k ≡ Some key) = place_of_item sorted key ((same key).1 (new_there router face name new)) in
@@ -238,12 +248,14 @@ module _ {net : Network} {chosen : List Edit} (K : ListsOfKind net chosen) (vali
 
       module _ (places : Places) (are : ArePlaces sorted places) where
         -- the tables tell where what was bound stands
-        pub stays_bound : (o : Option ListId) → IfSome o (λ id. id.0 < length K.lists) → StaysBound (λ was now. IsSomeAnd (slice_get K.lists was.0) (λ list. slice_get lists now.0 ≡ Some (K.edited was.0 list))) o (moved places o)
+        pub stays_bound : (o : Option ListId) → IfSome o (λ id. id.0 < length K.lists) →
+            StaysBound (λ was now. IsSomeAnd (slice_get K.lists was.0) (λ list. slice_get lists now.0 ≡ Some (K.edited was.0 list))) o (moved places o)
         stays_bound None within = refl
         stays_bound (Some id) within =
             let was = item_of K.lists id.0 within in
             let s = old_stands id.0 was.0 was.1 in
-            subst (λ (o : Option ℕ). IsSomeAnd (option_map list_at o) (λ now. IsSomeAnd (slice_get K.lists id.0) (λ list. slice_get lists now.0 ≡ Some (K.edited id.0 list)))) (sym (are s.0 (old_key_of K (id.0, was.0)) s.1))
+            subst (λ (o : Option ℕ). IsSomeAnd (option_map list_at o) (λ now. IsSomeAnd (slice_get K.lists id.0) (λ list. slice_get lists now.0 ≡ Some (K.edited id.0 list))))
+            (sym (are s.0 (old_key_of K (id.0, was.0)) s.1))
             (of_some (λ (list : K.Row). slice_get lists s.0 ≡ Some (K.edited id.0 list)) (slice_get K.lists id.0) was.0 was.1 s.2)
 
         -- and where a new list stands
@@ -256,7 +268,8 @@ module _ {net : Network} {chosen : List Edit} (K : ListsOfKind net chosen) (vali
             (of_some (K.IsNew face) (slice_get lists s.0) s.2.0 s.2.1 (new_is key face s.2.0 refl new s.2.2))
 
         -- so they tell where that stands which is bound: the new list, where there is one, or what was bound
-        pub is_bound : (none : Bool) (face : Face) (o : Option ListId) → IfSome o (λ id. id.0 < length K.lists) → (none ≡ false → (router : ℕ) × (name : List ℕ) × IsNewList net chosen router (K.new face) name) →
+        pub is_bound : (none : Bool) (face : Face) (o : Option ListId) → IfSome o (λ id. id.0 < length K.lists) →
+            (none ≡ false → (router : ℕ) × (name : List ℕ) × IsNewList net chosen router (K.new face) name) →
             MatchBool none (StaysBound (λ was now. IsSomeAnd (slice_get K.lists was.0) (λ list. slice_get lists now.0 ≡ Some (K.edited was.0 list))) o (bound_at places (not none) face.0 o))
             (IsSomeAnd (bound_at places (not none) face.0 o) (λ id. IsSomeAnd (slice_get lists id.0) (K.IsNew face)))
         is_bound true face o within new = stays_bound o within

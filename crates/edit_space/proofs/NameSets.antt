@@ -48,13 +48,15 @@ holds_key (x ∷ xs) k name = by (text_order k x) refl (holds_key xs k name)
     there same (inl h) = h
     there same (inr e) = subst (λ (n : List ℕ). Contains (x.now ∷ texts_at xs) n) (sym same ∙ e) (Contains-head x.now (texts_at xs))
 
-    under_to : Contains (texts_at (insert_key text_order xs k)) name ↔ (Contains (texts_at xs) name ⊎ (k.now ≡ name)) → Contains (x.now ∷ texts_at (insert_key text_order xs k)) name → Contains (texts_at (x ∷ xs)) name ⊎ (k.now ≡ name)
+    under_to : Contains (texts_at (insert_key text_order xs k)) name ↔ (Contains (texts_at xs) name ⊎ (k.now ≡ name)) →
+        Contains (x.now ∷ texts_at (insert_key text_order xs k)) name → Contains (texts_at (x ∷ xs)) name ⊎ (k.now ≡ name)
     under_to rest h = elim (Contains-cases x.now name (texts_at (insert_key text_order xs k)) h) [
       | inl e ↦ inl (subst (λ (n : List ℕ). Contains (x.now ∷ texts_at xs) n) e (Contains-head x.now (texts_at xs)))
       | inr later ↦ elim (rest.0 later) [ inl old ↦ inl (Contains-tail x.now name (texts_at xs) old) | inr now ↦ inr now ]
     ]
 
-    under_from : Contains (texts_at (insert_key text_order xs k)) name ↔ (Contains (texts_at xs) name ⊎ (k.now ≡ name)) → Contains (texts_at (x ∷ xs)) name ⊎ (k.now ≡ name) → Contains (x.now ∷ texts_at (insert_key text_order xs k)) name
+    under_from : Contains (texts_at (insert_key text_order xs k)) name ↔ (Contains (texts_at xs) name ⊎ (k.now ≡ name)) →
+        Contains (texts_at (x ∷ xs)) name ⊎ (k.now ≡ name) → Contains (x.now ∷ texts_at (insert_key text_order xs k)) name
     under_from rest (inl h) = elim (Contains-cases x.now name (texts_at xs) h) [
       | inl e ↦ subst (λ (n : List ℕ). Contains (x.now ∷ texts_at (insert_key text_order xs k)) n) e (Contains-head x.now (texts_at (insert_key text_order xs k)))
       | inr later ↦ Contains-tail x.now name (texts_at (insert_key text_order xs k)) (rest.1 (inl later))
@@ -154,7 +156,8 @@ found_name : (ks : List (Bor (List ℕ))) (k : Bor (List ℕ)) → list_any (is_
 found_name [] k e = absurd (false≢true e)
 found_name (x ∷ xs) k e = by (is_at (text_order k) x) refl (λ rest. found_name xs k rest) e
   where
-    by : (b : Bool) → is_at (text_order k) x ≡ b → (list_any (is_at (text_order k)) xs ≡ true → Contains (texts_at xs) k.now) → list_any (is_at (text_order k)) (x ∷ xs) ≡ true → Contains (texts_at (x ∷ xs)) k.now
+    by : (b : Bool) → is_at (text_order k) x ≡ b → (list_any (is_at (text_order k)) xs ≡ true → Contains (texts_at xs) k.now) →
+        list_any (is_at (text_order k)) (x ∷ xs) ≡ true → Contains (texts_at (x ∷ xs)) k.now
     by true f later e =
         let same : k.now ≡ x.now = exact_bytes k.now x.now (is_equal (text_order k x) f) in
         subst (λ (n : List ℕ). Contains (x.now ∷ texts_at xs) n) (sym same) (Contains-head x.now (texts_at xs))
@@ -209,7 +212,8 @@ pub listed_all : (listed all : List (List ℕ)) (rest : List (Bor (List ℕ))) �
 listed_all listed all rest none was = sym (append-nil listed) ∙ ap (λ l. listed ++ texts_at l) (sym none) ∙ was
 
 -- one name more for new lists
-pub first_names_more : (n : ℕ) (now next : List (List ℕ)) (name : List ℕ) → 1 ≤ n → name ≡ new_name n → now ≡ map new_name (range_with_len 1 (n - 1)) → next ≡ now ++ name ∷ [] → next ≡ map new_name (range_with_len 1 (n + 1 - 1))
+pub first_names_more : (n : ℕ) (now next : List (List ℕ)) (name : List ℕ) → 1 ≤ n → name ≡ new_name n → now ≡ map new_name (range_with_len 1 (n - 1)) →
+    next ≡ now ++ name ∷ [] → next ≡ map new_name (range_with_len 1 (n + 1 - 1))
 first_names_more n now next name low is was grown =
     let one : n + 1 - 1 ≡ n - 1 + 1 = omega arith in
     grown ∙ ap (λ l. l ++ name ∷ []) was ∙ ap (λ m. map new_name (range_with_len 1 (n - 1)) ++ m ∷ []) is ∙

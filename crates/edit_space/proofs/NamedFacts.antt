@@ -1,8 +1,7 @@
 -- What is known of new lists with their names: each is one of the network's new lists, all of them are there, and no two have one key.
-use Rattle.std.proofs.Common.{◌≡◌, ◌≢◌, ℕ, ◌+◌, ◌<◌, ◌^◌, ◌==◌, inl, inr, Bool, true, false, Some, None, List, [], length, get_or, refl, sym, ◌∙◌, ap, subst, arith, if◌then◌else◌}
+use Rattle.std.proofs.Common.{◌≡◌, ◌≢◌, ℕ, ◌+◌, ◌<◌, ◌^◌, inl, inr, false, Some, List, [], length, get_or, sym, ◌∙◌, ap, subst, arith}
 use Rattle.std.specs.Prelude.{AllPairs, Contains, slice_get, slice_index_or}
-use Rattle.std.proofs.lemmas.Bool.{eqb-true}
-use Rattle.std.proofs.lemmas.Option.{none-some, same_Some, slice_get_within, slice_get-get_or, get_or_from_slice_get}
+use Rattle.std.proofs.lemmas.Option.{slice_get_within, slice_get-get_or, get_or_from_slice_get}
 use Rattle.net_model.specs.declared.rows.Network.{Network}
 use Rattle.net_model.specs.Validity.{IsValid}
 use Rattle.arc_base.specs.NameForms.{IsName}
@@ -21,15 +20,9 @@ use Rattle.edit_space.specs.Working.{AreNewNames, IsNamed, AreNamed}
 use Rattle.edit_list.proofs.Counts.{few_picked}
 use Rattle.arc_base.proofs.Grouped.{told_at}
 use Rattle.edit_space.proofs.FreeNames.{free_names_apart, free_name_is_new}
+use Rattle.edit_list.proofs.Apart.{number_told}
 use Rattle.edit_list.proofs.NewListFacts.{picked_from, pairs_picked, new_list_from, new_list_within, new_lists_apart}
 use Rattle.edit_list.proofs.RowFacts.{one_place, one_item}
-
-numbered : {X : Type 0} (number : ℕ) (thing : ℕ × X) (x : X) → if_number number thing ≡ Some x → (thing.0 ≡ number) × (thing.1 ≡ x)
-numbered {X} number thing x e = by (thing.0 == number) refl e
-  where
-    by : (b : Bool) → (thing.0 == number) ≡ b → (if b then Some thing.1 else None) ≡ Some x → (thing.0 ≡ number) × (thing.1 ≡ x)
-    by true f e = (eqb-true thing.0 number f, same_Some thing.1 x e)
-    by false f e = absurd (none-some x e)
 
 -- the new list of an interface, with its row
 pub record IsOfPacketFace (net : Network) (chosen : List Edit) (router : ℕ) (face : Face) : Type 0 where
@@ -52,7 +45,7 @@ module _ (net : Network) (valid : IsValid net) (chosen : List Edit) where
   in_new_lists router list name new =
       let there : Contains (new_lists_of net chosen router) list = item_at_place (new_lists_of net chosen router) new.place list new.list_is in
       let r = picked_from (if_number router) (new_lists net chosen) list there in
-      let n = numbered router r.0 list r.2 in
+      let n = number_told router r.0 list r.2 in
       subst (λ (x : ℕ × NewList). Contains (new_lists net chosen) x) (λ j. (n.0 j, n.1 j)) r.1
 
   other_kind : (f g : Face) → Route f ≡ Packet g → ⊥
@@ -95,17 +88,19 @@ module _ (net : Network) (valid : IsValid net) (chosen : List Edit) where
     | inr r ↦ absurd (other_kind face (record { 0 = r.place }) (ap (λ (l : ℕ × NewList). l.1) r.is))
   ]
 
-module _ (net : Network) (valid : IsValid net) (chosen : List Edit) (names : List (List (List ℕ))) (named : List Named) (new_names : AreNewNames net (new_lists net chosen) names) (are_named : AreNamed (new_lists net chosen) names named) where
+module _ (net : Network) (valid : IsValid net) (chosen : List Edit) (names : List (List (List ℕ))) (named : List Named) (new_names : AreNewNames net (new_lists net chosen) names)
+    (are_named : AreNamed (new_lists net chosen) names named) where
   -- no two new lists of a router are the same
   lists_of_apart : (router : ℕ) → AllPairs (λ x y. x ≢ y) (new_lists_of net chosen router)
   lists_of_apart router =
       pairs_picked (λ (x : ℕ × NewList) (y : ℕ × NewList). x.1 ≢ y.1) (λ (x : NewList) (y : NewList). x ≢ y) (if_number router) (new_lists net chosen) along (new_lists_apart net valid chosen)
     where
       along : (x z : ℕ × NewList) (y w : NewList) → x.1 ≢ z.1 → if_number router x ≡ Some y → if_number router z ≡ Some w → y ≢ w
-      along x z y w differ e f same = differ ((numbered router x y e).1 ∙ same ∙ sym (numbered router z w f).1)
+      along x z y w differ e f same = differ ((number_told router x y e).1 ∙ same ∙ sym (number_told router z w f).1)
 
   pub names_at : (router : ℕ) → router < length net.routers → slice_index_or names router [] ≡ new_names_of net chosen router
-  names_at router low = get_or_from_slice_get names router (new_names_of net chosen router) [] (told_at (λ r. free_names (names_of net r) (length (of_number r (new_lists net chosen)))) (length net.routers) router names new_names.told low)
+  names_at router low = get_or_from_slice_get names router (new_names_of net chosen router) []
+      (told_at (λ r. free_names (names_of net r) (length (of_number r (new_lists net chosen)))) (length net.routers) router names new_names.told low)
 
   -- a new list is one of a router of the network
   pub router_within : (router : ℕ) (list : NewList) (name : List ℕ) → IsNewList net chosen router list name → router < length net.routers
@@ -113,7 +108,7 @@ module _ (net : Network) (valid : IsValid net) (chosen : List Edit) (names : Lis
       let there : Contains (new_lists_of net chosen router) list = item_at_place (new_lists_of net chosen router) new.place list new.list_is in
       let r = picked_from (if_number router) (new_lists net chosen) list there in
       let low : r.0.0 < length net.routers = new_list_within net valid chosen r.0 r.1 in
-      omega (arith, low, (numbered router r.0 list r.2).0)
+      omega (arith, low, (number_told router r.0 list r.2).0)
 
   -- each named list is a new one
   pub named_is_new : (i : ℕ) (one : Named) → slice_get named i ≡ Some one → IsNewList net chosen one.router one.list one.name
@@ -140,7 +135,7 @@ module _ (net : Network) (valid : IsValid net) (chosen : List Edit) (names : Lis
   new_is_named router list name new =
       let there : Contains (new_lists_of net chosen router) list = item_at_place (new_lists_of net chosen router) new.place list new.list_is in
       let r = picked_from (if_number router) (new_lists net chosen) list there in
-      let n = numbered router r.0 list r.2 in
+      let n = number_told router r.0 list r.2 in
       let p : (k : ℕ) × (slice_get (new_lists net chosen) k ≡ Some r.0) = place_of_item (new_lists net chosen) r.0 r.1 in
       let within : p.0 < length named = omega (arith, slice_get_within (new_lists net chosen) p.0 r.0 p.1, are_named.whole) in
       let one : Named = get_or named p.0 (record { router = router; list = list; name = name }) in
@@ -153,19 +148,23 @@ module _ (net : Network) (valid : IsValid net) (chosen : List Edit) (names : Lis
       let same_name : one.name ≡ name = one_name router list one.name name (subst (λ (l : NewList). IsNewList net chosen router l one.name) same_list at_router) new in
       subst (λ (x : Named). Contains named x) (λ j. record { router = same_router j; list = same_list j; name = same_name j }) (item_at_place named p.0 one at)
 
-  few_names : (router : ℕ) (list : NewList) (name : List ℕ) → length (new_lists net chosen) < 2 ^ 33 → IsNewList net chosen router list name → length (names_of net router) + length (new_lists_of net chosen router) < 2 ^ 59
+  few_names : (router : ℕ) (list : NewList) (name : List ℕ) → length (new_lists net chosen) < 2 ^ 33 → IsNewList net chosen router list name →
+      length (names_of net router) + length (new_lists_of net chosen router) < 2 ^ 59
   few_names router list name few new = omega (arith, new_names.few router (router_within router list name new), few_picked (if_number router) (new_lists net chosen), few)
 
   -- the name of a new list is none of the router's, and has the form of a name
-  pub name_is_new : (router : ℕ) (list : NewList) (name : List ℕ) → length (new_lists net chosen) < 2 ^ 33 → IsNewList net chosen router list name → (¬ Contains (names_of net router) name) × IsName name
+  pub name_is_new : (router : ℕ) (list : NewList) (name : List ℕ) → length (new_lists net chosen) < 2 ^ 33 → IsNewList net chosen router list name →
+      (¬ Contains (names_of net router) name) × IsName name
   name_is_new router list name few new =
-      free_name_is_new (names_of net router) (length (new_lists_of net chosen router)) name (few_names router list name few new) (item_at_place (new_names_of net chosen router) new.place name new.name_is)
+      free_name_is_new (names_of net router) (length (new_lists_of net chosen router)) name (few_names router list name few new) (item_at_place
+      (new_names_of net chosen router) new.place name new.name_is)
 
   -- two new lists of a router with one name are the same
   pub one_list : (router : ℕ) (x y : NewList) (name : List ℕ) → length (new_lists net chosen) < 2 ^ 33 → IsNewList net chosen router x name → IsNewList net chosen router y name → x ≡ y
   one_list router x y name few this that =
       let same : this.place ≡ that.place =
-      one_place (new_names_of net chosen router) this.place that.place name (free_names_apart (names_of net router) (length (new_lists_of net chosen router)) (omega (arith, few_names router x name few this))) this.name_is that.name_is in
+      one_place (new_names_of net chosen router) this.place that.place name
+      (free_names_apart (names_of net router) (length (new_lists_of net chosen router)) (omega (arith, few_names router x name few this))) this.name_is that.name_is in
       one_item (new_lists_of net chosen router) that.place x y (ap (λ k. slice_get (new_lists_of net chosen router) k) (sym same) ∙ this.list_is) that.list_is
 
   -- the named lists are not the same either
@@ -174,6 +173,8 @@ module _ (net : Network) (valid : IsValid net) (chosen : List Edit) (names : Lis
       let in_j : j < length (new_lists net chosen) = omega (arith, m, are_named.whole) in
       let in_i : i < length (new_lists net chosen) = omega (arith, l, in_j) in
       let e : ℕ × NewList = (d.router, d.list) in
-      let is_i : IsNamed (new_lists net chosen) names (get_or (new_lists net chosen) i e) (get_or named i d) = are_named.each i (get_or (new_lists net chosen) i e) (get_or named i d) (slice_get-get_or (new_lists net chosen) i e in_i) (slice_get-get_or named i d (omega (arith, l, m))) in
-      let is_j : IsNamed (new_lists net chosen) names (get_or (new_lists net chosen) j e) (get_or named j d) = are_named.each j (get_or (new_lists net chosen) j e) (get_or named j d) (slice_get-get_or (new_lists net chosen) j e in_j) (slice_get-get_or named j d m) in
+      let is_i : IsNamed (new_lists net chosen) names (get_or (new_lists net chosen) i e) (get_or named i d) =
+      are_named.each i (get_or (new_lists net chosen) i e) (get_or named i d) (slice_get-get_or (new_lists net chosen) i e in_i) (slice_get-get_or named i d (omega (arith, l, m))) in
+      let is_j : IsNamed (new_lists net chosen) names (get_or (new_lists net chosen) j e) (get_or named j d) =
+      are_named.each j (get_or (new_lists net chosen) j e) (get_or named j d) (slice_get-get_or (new_lists net chosen) j e in_j) (slice_get-get_or named j d m) in
       new_lists_apart net valid chosen i j e l in_j (sym is_i.same_list ∙ same ∙ is_j.same_list)

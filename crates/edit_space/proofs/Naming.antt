@@ -1,5 +1,6 @@
 -- The new lists of routers and their names, one after another.
-use Rattle.std.proofs.Common.{◌≡◌, ◌≢◌, ℕ, ◌+◌, ◌<◌, ◌≤◌, ◌^◌, ◌==◌, inl, inr, Bool, true, false, Some, None, List, [], ◌∷◌, ◌++◌, length, get_or, set, take, drop, map, replicate, refl, sym, ◌∙◌, ap, subst, arith, length-append, length-take, take-append-drop, if◌then◌else◌, unwrap_or}
+use Rattle.std.proofs.Common.{◌≡◌, ◌≢◌, ℕ, ◌+◌, ◌<◌, ◌≤◌, ◌^◌, ◌==◌, inl, inr, Bool, true, false, Some, None, List, [], ◌∷◌}
+use Rattle.std.proofs.Common.{◌++◌, length, get_or, set, take, drop, map, replicate, refl, sym, ◌∙◌, ap, subst, arith, length-append, length-take, take-append-drop, if◌then◌else◌, unwrap_or}
 use Rattle.std.specs.Prelude.{slice_get, slice_index_or, slice_index}
 use Rattle.std.specs.List.{cons_option, range_with_len}
 use Rattle.std.specs.Option.{option_map_or}
@@ -23,7 +24,8 @@ pub of_its_number : {X : Type 0} (things : List (ℕ × X)) (i : ℕ) (x : ℕ �
     of_number x.0 things ≡ of_number x.0 (take i things) ++ x.1 ∷ of_number x.0 (drop (i + 1) things)
 of_its_number {X} things i x within is =
     ap (of_number x.0) (sym (take-append-drop (i + 1) things)) ∙ filter_map-append (if_number x.0) (take (i + 1) things) (drop (i + 1) things) ∙
-    ap (λ l. l ++ of_number x.0 (drop (i + 1) things)) (picked_more (if_number x.0) things i x within is ∙ ap (λ b. of_number x.0 (take i things) ++ cons_option (if b then Some x.1 else None) []) test) ∙
+    ap (λ l. l ++ of_number x.0 (drop (i + 1) things)) (picked_more (if_number x.0) things i x within is
+    ∙ ap (λ b. of_number x.0 (take i things) ++ cons_option (if b then Some x.1 else None) []) test) ∙
     append_assoc (of_number x.0 (take i things)) (x.1 ∷ []) (of_number x.0 (drop (i + 1) things))
   where
     test : (x.0 == x.0) ≡ true
@@ -75,7 +77,8 @@ has_next net lists names i list used within is low are told = record {
     split = ap length (of_its_number lists i list within is) ∙ length-append (of_number list.0 (take i lists)) (list.1 ∷ of_number list.0 (drop (i + 1) lists))
 
 -- the list has the name that was taken
-pub is_named : (net : Network) (lists : List (ℕ × NewList)) (names : List (List (List ℕ))) (i : ℕ) (list : ℕ × NewList) (used : List ℕ) (name : List ℕ) (named : Named) → i < length lists → list ≡ get_or lists i list →
+pub is_named : (net : Network) (lists : List (ℕ × NewList)) (names : List (List (List ℕ))) (i : ℕ) (list : ℕ × NewList) (used : List ℕ) (name : List ℕ) (named : Named) →
+    i < length lists → list ≡ get_or lists i list →
     list.0 < length net.routers → used ≡ map (counts (take i lists)) (range_with_len 0 (length net.routers)) → slice_get (slice_index_or names list.0 []) (slice_index used list.0) ≡ Some name →
     named ≡ record { router = list.0; list = list.1; name = name } → IsNamed lists names list named
 is_named net lists names i list used name named within is low told taken made = record {
@@ -98,7 +101,8 @@ is_named net lists names i list used name named within is low told taken made = 
     at_place : slice_get (of_number list.0 lists) (counts (take i lists) list.0) ≡ Some list.1
     at_place =
         slice_get-get_or (of_number list.0 lists) (counts (take i lists) list.0) list.1 long ∙
-        ap Some (ap (λ l. get_or l (counts (take i lists) list.0) list.1) parts ∙ get_or_at (of_number list.0 (take i lists)) list.1 (of_number list.0 (drop (i + 1) lists)) list.1 (counts (take i lists) list.0) refl)
+        ap Some (ap (λ l. get_or l (counts (take i lists) list.0) list.1) parts
+        ∙ get_or_at (of_number list.0 (take i lists)) list.1 (of_number list.0 (drop (i + 1) lists)) list.1 (counts (take i lists) list.0) refl)
 
 -- one row more
 pub rows_more : {X Y : Type 0} (R : ℕ → X → Y → Type 0) (xs : List X) (i : ℕ) (x : X) (now next : List Y) (y : Y) → i < length xs → x ≡ get_or xs i x → R i x y → next ≡ now ++ y ∷ [] →
@@ -109,7 +113,8 @@ rows_more {X} {Y} R xs i x now next y within is one grown was =
     record {
       whole = omega (arith, ap length grown, length-append now (y ∷ []), ap length more, length-append (take i xs) (x ∷ []), was.whole);
       each = λ k z w at_z at_w.
-          holds_of_more (λ n v. (u : X) → slice_get (take (i + 1) xs) n ≡ Some u → R n u v) now next y i grown (was.whole ∙ counted) (before more counted) (λ u at_u. last more counted u at_u) k w at_w z at_z;
+          holds_of_more (λ n v. (u : X) → slice_get (take (i + 1) xs) n ≡ Some u → R n u v) now next y i grown (was.whole ∙ counted) (before more counted)
+          (λ u at_u. last more counted u at_u) k w at_w z at_z;
     }
   where
     front : (us vs : List X) (k : ℕ) (u : X) → k < length us → slice_get (us ++ vs) k ≡ Some u → slice_get us k ≡ Some u
@@ -132,8 +137,10 @@ pub all_rows : {X Y : Type 0} (R : ℕ → X → Y → Type 0) (xs zs : List X) 
 all_rows {X} R xs zs i ys past same rows = subst (λ (l : List X). EachRow R l ys) (take_all i xs past ∙ same) rows
 
 -- one router's names more
-pub new_names_more : (net : Network) (lists : List (ℕ × NewList)) (i : ℕ) (router : RouterRow) (count : ℕ) (now next : List (List (List ℕ))) (free : List (List ℕ)) → i < length net.routers → router ≡ get_or net.routers i router →
-    count ≡ length (of_number i lists) → free ≡ free_names router.names count → now ≡ map (λ r. free_names (names_of net r) (length (of_number r lists))) (range_with_len 0 i) → next ≡ now ++ free ∷ [] →
+pub new_names_more : (net : Network) (lists : List (ℕ × NewList)) (i : ℕ) (router : RouterRow) (count : ℕ) (now next : List (List (List ℕ))) (free : List (List ℕ)) →
+    i < length net.routers → router ≡ get_or net.routers i router →
+    count ≡ length (of_number i lists) → free ≡ free_names router.names count →
+    now ≡ map (λ r. free_names (names_of net r) (length (of_number r lists))) (range_with_len 0 i) → next ≡ now ++ free ∷ [] →
     next ≡ map (λ r. free_names (names_of net r) (length (of_number r lists))) (range_with_len 0 (i + 1))
 new_names_more net lists i router count now next free within is counted are was grown =
     let f : ℕ → List (List ℕ) = λ r. free_names (names_of net r) (length (of_number r lists)) in
@@ -143,7 +150,8 @@ new_names_more net lists i router count now next free within is counted are was 
     grown ∙ ap (λ l. l ++ free ∷ []) was ∙ ap (λ l. map f (range_with_len 0 i) ++ l ∷ []) one ∙ sym (map-range_with_len_more f 0 i i (omega arith))
 
 -- an index is told at each place, and the number of its names is
-pub counted_more : (names next : List (List (List ℕ))) (lists : List (ℕ × NewList)) (i : ℕ) (free : List (List ℕ)) → length names ≡ i → next ≡ names ++ free ∷ [] → length free ≡ length (of_number i lists) →
+pub counted_more : (names next : List (List (List ℕ))) (lists : List (ℕ × NewList)) (i : ℕ) (free : List (List ℕ)) → length names ≡ i →
+    next ≡ names ++ free ∷ [] → length free ≡ length (of_number i lists) →
     ((r : ℕ) → r < i → length (get_or names r []) ≡ length (of_number r lists)) → (r : ℕ) → r < i + 1 → length (get_or next r []) ≡ length (of_number r lists)
 counted_more names next lists i free size grown counted was r low =
     elim (cases_lt r i) [
@@ -153,7 +161,8 @@ counted_more names next lists i free size grown counted was r low =
           ap length (ap (λ l. get_or l r []) grown ∙ ap (λ n. get_or (names ++ free ∷ []) n []) same ∙ get_or_at names free [] [] i size) ∙ counted ∙ ap (λ n. length (of_number n lists)) (sym same)
     ]
 
-pub few_more : (net : Network) (i : ℕ) (router : RouterRow) → i < length net.routers → router ≡ get_or net.routers i router → length router.names < 2 ^ 32 → ((r : ℕ) → r < i → length (names_of net r) < 2 ^ 32) →
+pub few_more : (net : Network) (i : ℕ) (router : RouterRow) → i < length net.routers → router ≡ get_or net.routers i router → length router.names < 2 ^ 32 →
+    ((r : ℕ) → r < i → length (names_of net r) < 2 ^ 32) →
     (r : ℕ) → r < i + 1 → length (names_of net r) < 2 ^ 32
 few_more net i router within is few was r low =
     elim (cases_lt r i) [
@@ -166,5 +175,6 @@ few_more net i router within is few was r low =
     ]
 
 -- the new lists of a router, as the table of them has them
-pub group_of : (lists : List (ℕ × NewList)) (groups : List (List NewList)) (n i : ℕ) (things : List NewList) → IsTableOf n (λ k. of_number k lists) groups → i < n → things ≡ unwrap_or (slice_get groups i) [] → things ≡ of_number i lists
+pub group_of : (lists : List (ℕ × NewList)) (groups : List (List NewList)) (n i : ℕ) (things : List NewList) → IsTableOf n (λ k. of_number k lists) groups →
+    i < n → things ≡ unwrap_or (slice_get groups i) [] → things ≡ of_number i lists
 group_of lists groups n i things told within is = is ∙ ap (λ o. unwrap_or o []) (told_at (λ k. of_number k lists) n i groups told within)

@@ -17,7 +17,8 @@ use Rattle.net_model.specs.Validity.{IsValid}
 use Rattle.edit_list.specs.declared.edit_kinds.Edit.{Edit}
 use Rattle.edit_list.specs.declared.sites.Site.TheVariants.{New}
 use Rattle.edit_space.specs.declared.order.Keyed.{Keyed}
-use Rattle.edit_list.specs.After.{edited_packet_list, edited_route_list, IsNewPacketList, IsNewRouteList, IsPacketListAfter, IsRouteListAfter, StaysBound, IsRouterAfter, IsFaceAfter, IsSessionAfter, IsAfter}
+use Rattle.edit_list.specs.After.{edited_packet_list, edited_route_list, IsNewPacketList, IsNewRouteList, IsPacketListAfter}
+use Rattle.edit_list.specs.After.{IsRouteListAfter, StaysBound, IsRouterAfter, IsFaceAfter, IsSessionAfter, IsAfter}
 use Rattle.edit_list.specs.Changes.{new_classes, new_prefixes}
 use Rattle.edit_list.specs.Determined.{IsCountable, AfterIsOne}
 use Rattle.edit_list.specs.NewLists.{IsNewList}
@@ -55,7 +56,8 @@ module _ {X : Type 0} (R : X → X → Type 0) (not_both : (x y : X) → R x y �
       ap (λ (p : X). p ∷ xs) e ∙ ap (λ (l : List X). y ∷ l) rest
 
 -- rows that are fixed one by one make one list
-pub one_list_of_rows : {X Y : Type 0} (P Q : ℕ → X → Y → Type 0) (xs : List X) (ys zs : List Y) → ((k : ℕ) (x : X) (y z : Y) → slice_get xs k ≡ Some x → P k x y → Q k x z → y ≡ z) → EachRow P xs ys → EachRow Q xs zs → ys ≡ zs
+pub one_list_of_rows : {X Y : Type 0} (P Q : ℕ → X → Y → Type 0) (xs : List X) (ys zs : List Y) →
+    ((k : ℕ) (x : X) (y z : Y) → slice_get xs k ≡ Some x → P k x y → Q k x z → y ≡ z) → EachRow P xs ys → EachRow Q xs zs → ys ≡ zs
 one_list_of_rows P Q [] [] [] same one two = refl
 one_list_of_rows P Q [] [] (z ∷ zs) same one two = absurd (omega (arith, two.whole))
 one_list_of_rows P Q [] (y ∷ ys) zs same one two = absurd (omega (arith, one.whole))
@@ -85,7 +87,8 @@ module _ {L : Type 0} (key : L → Key) where
   Before l m = IsKeyBefore (key l) (key m)
 
   same_lists : (P : L → Type 0) (xs ys : List L) → AllPairs Before xs → ((l : L) → Contains xs l ↔ P l) → AllPairs Before ys → ((l : L) → Contains ys l ↔ P l) → xs ≡ ys
-  same_lists P xs ys up_x just_x up_y just_y = same_ordered Before (λ l m. keys_not_both (key l) (key m)) xs ys up_x up_y (λ l there. (just_y l).1 ((just_x l).0 there)) (λ l there. (just_x l).1 ((just_y l).0 there))
+  same_lists P xs ys up_x just_x up_y just_y = same_ordered Before (λ l m. keys_not_both (key l) (key m)) xs ys up_x up_y (λ l there. (just_y l).1 ((just_x l).0 there))
+      (λ l there. (just_x l).1 ((just_y l).0 there))
 
   lists_apart : (xs : List L) → AllPairs Before xs → AllPairs (λ l m. l ≢ m) xs
   lists_apart xs up = AllPairs-among Before (λ (l : L) (m : L). l ≢ m) xs (λ l m in_l in_m before same. not_before_itself (key m) (subst (λ (k : L). Before k m) same before)) up
@@ -95,7 +98,8 @@ module _ {L : Type 0} (before lists : List L) (edited : ℕ → L → L) (apart 
   abbrev Moves : ListId → ListId → Type 0
   Moves was now = IsSomeAnd (slice_get before was.0) (λ list. slice_get lists now.0 ≡ Some (edited was.0 list))
 
-  one_move : (o : Option L) (was i j : ListId) → IsSomeAnd o (λ list. slice_get lists i.0 ≡ Some (edited was.0 list)) → IsSomeAnd o (λ list. slice_get lists j.0 ≡ Some (edited was.0 list)) → Some i ≡ Some j
+  one_move : (o : Option L) (was i j : ListId) → IsSomeAnd o (λ list. slice_get lists i.0 ≡ Some (edited was.0 list)) →
+      IsSomeAnd o (λ list. slice_get lists j.0 ≡ Some (edited was.0 list)) → Some i ≡ Some j
   one_move None was i j at_i at_j = absurd at_i
   one_move (Some list) was i j at_i at_j = let same : i.0 ≡ j.0 = one_place lists i.0 j.0 (edited was.0 list) apart at_i at_j in λ t. Some (record { 0 = same t })
 
@@ -129,7 +133,8 @@ module _ (net : Network) (valid : IsValid net) (countable : IsCountable net) (ch
       let router : K.router l ≡ K.router m = one_router K (K.router l) (K.router m) x (K.name l) (K.name m) (K.named x l this) (K.named x m that) in
       let name : K.name l ≡ K.name m = one_name net valid chosen (names_made net valid countable chosen) made.0 made.1.new_names made.1.are_named (K.router m) (K.new x) (K.name l) (K.name m)
       (subst (λ (k : ℕ). IsNewList net chosen k (K.new x) (K.name l)) router (K.named x l this)) (K.named x m that) in
-      K.one_for (record { router = K.router m; name = K.name m; site = New x }) l m (subst (λ (k : Keyed). K.IsFor k l) (λ t. record { router = router t; name = name t; site = New x }) (K.new_for x l this)) (K.new_for x m that)
+      K.one_for (record { router = K.router m; name = K.name m; site = New x }) l m
+      (subst (λ (k : Keyed). K.IsFor k l) (λ t. record { router = router t; name = name t; site = New x }) (K.new_for x l this)) (K.new_for x m that)
 
   module _ (after other : Network) (is : IsAfter net chosen after) (also : IsAfter net chosen other) where
     same_packet_lists : after.packet_lists ≡ other.packet_lists
@@ -148,7 +153,8 @@ module _ (net : Network) (valid : IsValid net) (countable : IsCountable net) (ch
     same_router k was x y at this that =
         let name : x.name ≡ y.name = this.name ∙ sym that.name in
         let asn : x.asn ≡ y.asn = this.asn ∙ sym that.asn in
-        let names : x.names ≡ y.names = same_ordered IsNameBefore names_not_both x.names y.names this.order that.order (λ n there. (that.names n).1 ((this.names n).0 there)) (λ n there. (this.names n).1 ((that.names n).0 there)) in
+        let names : x.names ≡ y.names = same_ordered IsNameBefore names_not_both x.names y.names this.order that.order (λ n there. (that.names n).1 ((this.names n).0 there))
+        (λ n there. (this.names n).1 ((that.names n).0 there)) in
         λ t. record { name = name t; asn = asn t; names = names t }
 
     same_face : (k : ℕ) (was x y : FaceRow) → slice_get net.faces k ≡ Some was → IsFaceAfter net chosen after k was x → IsFaceAfter net chosen other k was y → x ≡ y
@@ -156,12 +162,15 @@ module _ (net : Network) (valid : IsValid net) (countable : IsCountable net) (ch
         let passive : x.passive ≡ y.passive = this.passive ∙ sym that.passive in
         let bound_in : x.bound_in ≡ y.bound_in = this.bound_in ∙ sym that.bound_in in
         let list_in : x.list_in ≡ y.list_in =
-        one_bound net.packet_lists after.packet_lists (edited_packet_list chosen) packets_apart (IsNewPacketList net chosen (record { 0 = k })) (one_new_list (packets net chosen valid) (record { 0 = k })) (is_empty (new_classes chosen k)) was.list_in x.list_in y.list_in this.list_in
-        (subst (λ (lists : List PacketList). MatchBool (is_empty (new_classes chosen k)) (StaysBound (λ w n. IsSomeAnd (slice_get net.packet_lists w.0) (λ list. slice_get lists n.0 ≡ Some (edited_packet_list chosen w.0 list))) was.list_in y.list_in)
+        one_bound net.packet_lists after.packet_lists (edited_packet_list chosen) packets_apart (IsNewPacketList net chosen (record { 0 = k }))
+        (one_new_list (packets net chosen valid) (record { 0 = k })) (is_empty (new_classes chosen k)) was.list_in x.list_in y.list_in this.list_in
+        (subst (λ (lists : List PacketList). MatchBool (is_empty (new_classes chosen k))
+        (StaysBound (λ w n. IsSomeAnd (slice_get net.packet_lists w.0) (λ list. slice_get lists n.0 ≡ Some (edited_packet_list chosen w.0 list))) was.list_in y.list_in)
         (IsSomeAnd y.list_in (λ id. IsSomeAnd (slice_get lists id.0) (IsNewPacketList net chosen (record { 0 = k }))))) (sym same_packet_lists) that.list_in) in
         let list_out : x.list_out ≡ y.list_out =
         one_stays net.packet_lists after.packet_lists (edited_packet_list chosen) packets_apart was.list_out x.list_out y.list_out this.list_out
-        (subst (λ (lists : List PacketList). StaysBound (λ w n. IsSomeAnd (slice_get net.packet_lists w.0) (λ list. slice_get lists n.0 ≡ Some (edited_packet_list chosen w.0 list))) was.list_out y.list_out) (sym same_packet_lists) that.list_out) in
+        (subst (λ (lists : List PacketList). StaysBound (λ w n. IsSomeAnd (slice_get net.packet_lists w.0) (λ list. slice_get lists n.0 ≡ Some (edited_packet_list chosen w.0 list)))
+        was.list_out y.list_out) (sym same_packet_lists) that.list_out) in
         this.same ∙ (λ t. record was { passive = passive t; bound_in = bound_in t; list_in = list_in t; list_out = list_out t }) ∙ sym that.same
 
     same_session : (k : ℕ) (was x y : SessionRow) → slice_get net.sessions k ≡ Some was → IsSessionAfter net chosen after k was x → IsSessionAfter net chosen other k was y → x ≡ y
@@ -169,8 +178,10 @@ module _ (net : Network) (valid : IsValid net) (countable : IsCountable net) (ch
         let down : x.down ≡ y.down = this.down ∙ sym that.down in
         let bound : x.bound ≡ y.bound = this.bound ∙ sym that.bound in
         let filter : x.filter ≡ y.filter =
-        one_bound net.route_lists after.route_lists (edited_route_list chosen) routes_apart (IsNewRouteList net chosen was.face) (one_new_list (routes net chosen valid) was.face) (is_empty (new_prefixes chosen was.face.0)) was.filter x.filter y.filter this.filter
-        (subst (λ (lists : List RouteList). MatchBool (is_empty (new_prefixes chosen was.face.0)) (StaysBound (λ w n. IsSomeAnd (slice_get net.route_lists w.0) (λ list. slice_get lists n.0 ≡ Some (edited_route_list chosen w.0 list))) was.filter y.filter)
+        one_bound net.route_lists after.route_lists (edited_route_list chosen) routes_apart (IsNewRouteList net chosen was.face) (one_new_list
+        (routes net chosen valid) was.face) (is_empty (new_prefixes chosen was.face.0)) was.filter x.filter y.filter this.filter
+        (subst (λ (lists : List RouteList). MatchBool (is_empty (new_prefixes chosen was.face.0))
+        (StaysBound (λ w n. IsSomeAnd (slice_get net.route_lists w.0) (λ list. slice_get lists n.0 ≡ Some (edited_route_list chosen w.0 list))) was.filter y.filter)
         (IsSomeAnd y.filter (λ id. IsSomeAnd (slice_get lists id.0) (IsNewRouteList net chosen was.face)))) (sym same_route_lists) that.filter) in
         this.same ∙ (λ t. record was { down = down t; bound = bound t; filter = filter t }) ∙ sym that.same
 

@@ -26,7 +26,8 @@ pub record Puts (site : Site) (place : ℕ) (now next : Places) : Type 0 where
   pub same : (s : Site) (k : ℕ) → s ≢ site → PlacesTell now s k → PlacesTell next s k
   pub here : PlacesTell next site place
 
-pub puts_bound : (id : ListId) (place : ℕ) (now next : Places) → id.0 < length now.bound.items → next.bound.items ≡ set now.bound.items id.0 place → next.new.items ≡ now.new.items → Puts (Bound id) place now next
+pub puts_bound : (id : ListId) (place : ℕ) (now next : Places) → id.0 < length now.bound.items → next.bound.items ≡ set now.bound.items id.0 place →
+    next.new.items ≡ now.new.items → Puts (Bound id) place now next
 puts_bound id place now next within put kept = record { same = same; here = ap (λ l. slice_get l id.0) put ∙ get_set_same now.bound.items id.0 place within }
   where
     same : (s : Site) (k : ℕ) → s ≢ Bound id → PlacesTell now s k → PlacesTell next s k
@@ -35,7 +36,8 @@ puts_bound id place now next within put kept = record { same = same; here = ap (
         ap (λ l. slice_get l other.0) put ∙ get_set_other now.bound.items id.0 other.0 place k apart told
     same (New face) k differ told = ap (λ l. slice_get l face.0) kept ∙ told
 
-pub puts_new : (face : Face) (place : ℕ) (now next : Places) → face.0 < length now.new.items → next.new.items ≡ set now.new.items face.0 place → next.bound.items ≡ now.bound.items → Puts (New face) place now next
+pub puts_new : (face : Face) (place : ℕ) (now next : Places) → face.0 < length now.new.items → next.new.items ≡ set now.new.items face.0 place →
+    next.bound.items ≡ now.bound.items → Puts (New face) place now next
 puts_new face place now next within put kept = record { same = same; here = ap (λ l. slice_get l face.0) put ∙ get_set_same now.new.items face.0 place within }
   where
     same : (s : Site) (k : ℕ) → s ≢ New face → PlacesTell now s k → PlacesTell next s k
@@ -61,5 +63,6 @@ told_more lists i list now next apart within is puts told k l low at =
     ]
 
 -- each list's site is within its table
-pub within_at : (bound faces : ℕ) (lists : List Keyed) (i : ℕ) (list : Keyed) → All (λ l. IsWithin bound faces l.site) lists → i < length lists → list ≡ get_or lists i list → IsWithin bound faces list.site
+pub within_at : (bound faces : ℕ) (lists : List Keyed) (i : ℕ) (list : Keyed) → All (λ l. IsWithin bound faces l.site) lists → i < length lists →
+    list ≡ get_or lists i list → IsWithin bound faces list.site
 within_at bound faces lists i list all within is = subst (λ (l : Keyed). IsWithin bound faces l.site) (sym is) (all i list within)

@@ -55,7 +55,11 @@ sort_keys : (xs : List Keyed) → AllPairs (λ x y. key_of x ≢ key_of y) xs �
 sort_keys xs apart = (
   AllPairs-among (λ (x : Keyed) (y : Keyed). compare_keys (key_of x) (key_of y) ≡ Less) (λ (x : Keyed) (y : Keyed). IsKeyBefore (key_of x) (key_of y))
       (sort key_of compare_keys keys_total xs) (λ x y in_x in_y less. before_from_less (key_of x) (key_of y) less) (sorted key_of compare_keys keys_total xs),
-  λ x. (from_sort key_of compare_keys keys_total xs x, to_sort key_of compare_keys keys_total xs (λ a b in_a in_b equal. same_by key_of xs apart a b in_a in_b (same_from_equal (key_of a) (key_of b) equal)) x),
+  λ x. (
+    from_sort key_of compare_keys keys_total xs x,
+    to_sort key_of compare_keys keys_total xs
+        (λ a b in_a in_b equal. same_by key_of xs apart a b in_a in_b (same_from_equal (key_of a) (key_of b) equal)) x,
+  ),
 )
 
 -- the lists of a kind after the edits
@@ -81,7 +85,8 @@ module _ {net : Network} {chosen : List Edit} (K : ListsOfKind net chosen) (vali
   listed_in_order : AllPairs (λ l n. IsKeyBefore (K.router l, K.name l) (K.router n, K.name n)) rows.0
   listed_in_order = lists_in_order K valid m in_order order.0 order.1 rows.0 rows.1
 
-  stays : (o : Option ListId) → IfSome o (λ id. id.0 < length K.lists) → (n : Option ListId) × StaysBound (λ was now. IsSomeAnd (slice_get K.lists was.0) (λ list. slice_get rows.0 now.0 ≡ Some (K.edited was.0 list))) o n
+  stays : (o : Option ListId) → IfSome o (λ id. id.0 < length K.lists) →
+      (n : Option ListId) × StaysBound (λ was now. IsSomeAnd (slice_get K.lists was.0) (λ list. slice_get rows.0 now.0 ≡ Some (K.edited was.0 list))) o n
   stays None within = (None, refl)
   stays (Some id) within =
       let was = item_of K.lists id.0 within in
@@ -95,8 +100,10 @@ module _ {net : Network} {chosen : List Edit} (K : ListsOfKind net chosen) (vali
       (Some (list_at place.0), of_some (K.IsNew face) (slice_get rows.0 place.0) one.0 place.1 one.1)
 
   -- and what is bound: the new list, where there is one, or what was bound
-  some_bound : (none : Bool) (face : Face) (o : Option ListId) → IfSome o (λ id. id.0 < length K.lists) → (none ≡ false → (router : ℕ) × (name : List ℕ) × IsNewList net chosen router (K.new face) name) →
-      (n : Option ListId) × MatchBool none (StaysBound (λ was now. IsSomeAnd (slice_get K.lists was.0) (λ list. slice_get rows.0 now.0 ≡ Some (K.edited was.0 list))) o n) (IsSomeAnd n (λ id. IsSomeAnd (slice_get rows.0 id.0) (K.IsNew face)))
+  some_bound : (none : Bool) (face : Face) (o : Option ListId) → IfSome o (λ id. id.0 < length K.lists) →
+      (none ≡ false → (router : ℕ) × (name : List ℕ) × IsNewList net chosen router (K.new face) name) →
+      (n : Option ListId) × MatchBool none (StaysBound (λ was now. IsSomeAnd (slice_get K.lists was.0) (λ list. slice_get rows.0 now.0 ≡ Some (K.edited was.0 list))) o n)
+      (IsSomeAnd n (λ id. IsSomeAnd (slice_get rows.0 id.0) (K.IsNew face)))
   some_bound true face o within new = stays o within
   some_bound false face o within new = let made = new refl in new_stands made.0 face made.1 made.2
 
@@ -114,7 +121,8 @@ module _ (net : Network) (valid : IsValid net) (countable : IsCountable net) (ch
   face_row : (place : ℕ) (was : FaceRow) → slice_get net.faces place ≡ Some was → (now : FaceRow) × IsFaceAfter net chosen (listed [] [] []) place was now
   face_row place was at =
       let v : IsValidFace net place was = valid.faces place was at in
-      let list_in = some_bound (packets net chosen valid) valid m (is_empty (new_classes chosen place)) (record { 0 = place }) was.list_in (first_of (λ (id : ListId). id.0 < length net.packet_lists) (λ id. IsTrue was.bound_in) was.list_in v.list_in)
+      let list_in = some_bound (packets net chosen valid) valid m (is_empty (new_classes chosen place)) (record { 0 = place }) was.list_in
+      (first_of (λ (id : ListId). id.0 < length net.packet_lists) (λ id. IsTrue was.bound_in) was.list_in v.list_in)
       (λ e. let name = packet_name net valid chosen (names_made net valid countable chosen) named m.new_names m.are_named place was at e in (was.router.0, name.0, name.1)) in
       let list_out = stays (packets net chosen valid) valid m was.list_out v.list_out in (
         record was { passive = passive_after net.protocol chosen place was.passive; bound_in = was.bound_in || not (is_empty (new_classes chosen place)); list_in = list_in.0; list_out = list_out.0 },
@@ -126,7 +134,8 @@ module _ (net : Network) (valid : IsValid net) (countable : IsCountable net) (ch
       let there : Contains net.sessions was = item_at_place net.sessions place was at in
       let v : IsValidSession net was = All-contains (IsValidSession net) net.sessions was valid.sessions there in
       let face = item_of net.faces was.face.0 v.face in
-      let filter = some_bound (routes net chosen valid) valid m (is_empty (new_prefixes chosen was.face.0)) was.face was.filter (first_of (λ (id : ListId). id.0 < length net.route_lists) (λ id. IsTrue was.bound) was.filter v.filter)
+      let filter = some_bound (routes net chosen valid) valid m (is_empty (new_prefixes chosen was.face.0)) was.face was.filter
+      (first_of (λ (id : ListId). id.0 < length net.route_lists) (λ id. IsTrue was.bound) was.filter v.filter)
       (λ e. let name = route_name net valid chosen (names_made net valid countable chosen) named m.new_names m.are_named was face.0 there face.1 e in (face.0.router.0, name.0, name.1)) in (
         record was { down = turned_if (turns_session chosen was.face.0) was.down; bound = was.bound || not (is_empty (new_prefixes chosen was.face.0)); filter = filter.0 },
         record { same = refl; down = refl; bound = refl; filter = filter.1 },
@@ -168,10 +177,12 @@ module _ (net : Network) (valid : IsValid net) (countable : IsCountable net) (ch
       )
     where
       -- what is said of a row speaks of the lists alone
-      face_in : (routers : List RouterRow) (faces : List FaceRow) (sessions : List SessionRow) (k : ℕ) (x y : FaceRow) → IsFaceAfter net chosen (listed [] [] []) k x y → IsFaceAfter net chosen (listed routers faces sessions) k x y
+      face_in : (routers : List RouterRow) (faces : List FaceRow) (sessions : List SessionRow) (k : ℕ) (x y : FaceRow) →
+          IsFaceAfter net chosen (listed [] [] []) k x y → IsFaceAfter net chosen (listed routers faces sessions) k x y
       face_in routers faces sessions k x y f = record { same = f.same; passive = f.passive; bound_in = f.bound_in; list_in = f.list_in; list_out = f.list_out }
 
-      session_in : (routers : List RouterRow) (faces : List FaceRow) (sessions : List SessionRow) (k : ℕ) (x y : SessionRow) → IsSessionAfter net chosen (listed [] [] []) k x y → IsSessionAfter net chosen (listed routers faces sessions) k x y
+      session_in : (routers : List RouterRow) (faces : List FaceRow) (sessions : List SessionRow) (k : ℕ) (x y : SessionRow) →
+          IsSessionAfter net chosen (listed [] [] []) k x y → IsSessionAfter net chosen (listed routers faces sessions) k x y
       session_in routers faces sessions k x y f = record { same = f.same; down = f.down; bound = f.bound; filter = f.filter }
 
 pub after_is_there : AfterIsThere

@@ -30,7 +30,8 @@ module _ (net : Network) (valid : IsValid net) (countable : IsCountable net) (ch
   names_made = map (λ router. free_names (names_of net router) (length (of_number router (new_lists net chosen)))) (range_with_len 0 (length net.routers))
 
   few : length (new_lists net chosen) < 2 ^ 33
-  few = few_new_lists (new_route_list net chosen) (new_packet_list chosen) (new_lists net chosen) (filter_map (new_route_list net chosen) net.sessions) (filter_map (new_packet_list chosen) (placed net.faces)) net.sessions net.faces
+  few = few_new_lists (new_route_list net chosen) (new_packet_list chosen) (new_lists net chosen) (filter_map (new_route_list net chosen) net.sessions)
+      (filter_map (new_packet_list chosen) (placed net.faces)) net.sessions net.faces
       countable.sessions countable.faces refl refl refl
 
   counted : (router : ℕ) → router < length net.routers → length (slice_index_or names_made router []) ≡ length (of_number router (new_lists net chosen))
@@ -61,7 +62,8 @@ module _ (net : Network) (valid : IsValid net) (countable : IsCountable net) (ch
       let name = item_of (slice_index_or names_made list.0 []) (slice_index used list.0) next.left in
       let one : Named = record { router = list.0; list = list.1; name = name.0 } in
       let row : IsNamed (new_lists net chosen) names_made list one = is_named net (new_lists net chosen) names_made i list used name.0 one low is router refl name.1 refl in
-      let more : EachRow IsRow (take (i + 1) (new_lists net chosen)) (before.0 ++ one ∷ []) = rows_more IsRow (new_lists net chosen) i list before.0 (before.0 ++ one ∷ []) one low is row refl before.1 in
+      let more : EachRow IsRow (take (i + 1) (new_lists net chosen)) (before.0 ++ one ∷ []) =
+      rows_more IsRow (new_lists net chosen) i list before.0 (before.0 ++ one ∷ []) one low is row refl before.1 in
       let step : i + 1 ≡ suc i = omega arith in
       (before.0 ++ one ∷ [], subst (λ (n : ℕ). EachRow IsRow (take n (new_lists net chosen)) (before.0 ++ one ∷ [])) step more)
 
@@ -72,8 +74,10 @@ module _ (net : Network) (valid : IsValid net) (countable : IsCountable net) (ch
 
   pub good_names : (router : ℕ) (list : NewList) (name : List ℕ) → IsNewList net chosen router list name → (router < length net.routers) × IsName name
   good_names router list name new =
-      let m = named_made in
-      (router_within net valid chosen names_made m.0 m.1.new_names m.1.are_named router list name new, (name_is_new net valid chosen names_made m.0 m.1.new_names m.1.are_named router list name m.1.few new).1)
+      let m = named_made in (
+        router_within net valid chosen names_made m.0 m.1.new_names m.1.are_named router list name new,
+        (name_is_new net valid chosen names_made m.0 m.1.new_names m.1.are_named router list name m.1.few new).1,
+      )
 
 pub after_is_valid : AfterIsValid
 after_is_valid net valid countable chosen after is = is_valid net valid chosen after is (good_names net valid countable chosen)

@@ -24,7 +24,8 @@ pub in_place : {lists keys sorted : List Keyed} {places : Places} → lists ≡ 
 in_place {lists} {keys} {sorted} {places} is p = subst (λ (l : List Keyed). AreInPlace l sorted places) is p
 
 module _ (net : Network) (valid : IsValid net) (chosen : List Edit) (names : List (List (List ℕ))) (named : List Named) (m : AreMade net chosen names named)
-    (packets_sorted routes_sorted : List Keyed) (packet_places route_places : Places) (p : AreInPlace (packet_keys net named) packets_sorted packet_places) (r : AreInPlace (route_keys net named) routes_sorted route_places)
+    (packets_sorted routes_sorted : List Keyed) (packet_places route_places : Places) (p : AreInPlace (packet_keys net named) packets_sorted packet_places)
+    (r : AreInPlace (route_keys net named) routes_sorted route_places)
     (after : Network) (protocol : after.protocol ≡ net.protocol) (links : after.links ≡ net.links) (routers : EachRow (IsRouterAfter net chosen) net.routers after.routers)
     (faces : after.faces ≡ map (face_after net.protocol chosen packet_places) (placed net.faces)) (sessions : after.sessions ≡ map (session_after chosen route_places) net.sessions)
     (packet_rows : EachRow (λ place. IsPacketListFor net chosen) packets_sorted after.packet_lists) (route_rows : EachRow (λ place. IsRouteListFor net chosen) routes_sorted after.route_lists) where

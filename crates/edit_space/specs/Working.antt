@@ -120,17 +120,18 @@ new_key named face = record { router = named.router; name = named.name; site = N
 abbrev pub new_key_by : (NewList → Option Face) → Named → Option Keyed
 new_key_by face named = option_map (new_key named) (face named.list)
 
--- all packet lists after the edits, before they are sorted
-abbrev pub packet_keys : Network → List Named → List Keyed
-packet_keys net named =
-    map (λ list. old_key list.0 list.1.router.0 list.1.name) (placed net.packet_lists) ++
-    filter_map (new_key_by packet_face) named
+-- all lists of a kind after the edits, before they are sorted: those that there were, and the new ones
+abbrev pub list_keys : {L : Type 0} → List L → (L → Key) → (NewList → Option Face) → List Named →
+    List Keyed
+list_keys lists key face named =
+    map (λ list. old_key list.0 (key list.1).0 (key list.1).1) (placed lists) ++
+    filter_map (new_key_by face) named
 
--- all route lists after the edits, before they are sorted
+abbrev pub packet_keys : Network → List Named → List Keyed
+packet_keys net = list_keys net.packet_lists (λ list. (list.router.0, list.name)) packet_face
+
 abbrev pub route_keys : Network → List Named → List Keyed
-route_keys net named =
-    map (λ list. old_key list.0 list.1.router.0 list.1.name) (placed net.route_lists) ++
-    filter_map (new_key_by route_face) named
+route_keys net = list_keys net.route_lists (λ list. (list.router.0, list.name)) route_face
 
 -- the site is one of the old lists, or one of the interfaces
 abbrev pub IsWithin : ℕ → ℕ → Site → Type 0

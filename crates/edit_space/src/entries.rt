@@ -1,8 +1,8 @@
 //! Entries that edits make.
-ghost use Rattle.std.specs.Prelude.{◌≡◌, false, map, IfOk};
 ghost use Rattle.edit_list.specs.After.{any, exact_entry, class_entry, opposite_route_entry};
 ghost use Rattle.edit_list.specs.After.{opposite_packet_entry, with_prefixes, with_classes};
 ghost use Rattle.edit_list.specs.After.{new_route_entries, new_packet_entries};
+ghost use Rattle.std.specs.Prelude.{◌≡◌, false, map, IfOk};
 
 use arc_base::groups::append;
 use arc_base::{List, Memory, Prefix};

@@ -6,12 +6,11 @@
 mod changes;
 mod entries;
 pub mod laws;
+mod list_kinds;
 mod names;
 mod network_after;
 mod new_lists;
 mod order;
-mod packet_lists;
-mod route_lists;
 mod rows;
 
 pub use changes::Changes;

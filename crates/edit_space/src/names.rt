@@ -1,10 +1,10 @@
 //! The names of new lists.
+ghost use Rattle.arc_base.specs.NameForms.{IsNameBefore, texts_at};
+ghost use Rattle.edit_list.specs.NewLists.{new_name, is_among, free_names};
+ghost use Rattle.edit_space.specs.Working.{AreJoined};
+ghost use Rattle.std.specs.List.{range_with_len};
 ghost use Rattle.std.specs.Prelude.{◌≡◌, ◌<◌, ◌^◌, AllPairs, IfOk, OnOk, length, map, take, filter};
 ghost use Rattle.std.specs.Prelude.{not};
-ghost use Rattle.std.specs.List.{range_with_len};
-ghost use Rattle.edit_list.specs.NewLists.{new_name, is_among, free_names};
-ghost use Rattle.arc_base.specs.NameForms.{IsNameBefore, texts_at};
-ghost use Rattle.edit_space.specs.Working.{AreJoined};
 
 use arc_base::{List, Memory, Name, push_number};
 use std::alloc::Global;

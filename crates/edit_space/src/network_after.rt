@@ -1,14 +1,13 @@
 //! The network after edits.
-ghost use Rattle.std.specs.Prelude.{◌≡◌, length, IfOk};
-ghost use Rattle.net_model.specs.Validity.{IsValid};
 ghost use Rattle.edit_list.specs.After.{IsAfter};
 ghost use Rattle.edit_list.specs.Prices.{chosen_of};
+ghost use Rattle.net_model.specs.Validity.{IsValid};
+ghost use Rattle.std.specs.Prelude.{◌≡◌, length, IfOk};
 
 use crate::changes::Changes;
+use crate::list_kinds::{keyed_lists, lists_after};
 use crate::new_lists::new_named;
 use crate::order::placed_lists;
-use crate::packet_lists::{keyed_packet_lists, packet_lists_after};
-use crate::route_lists::{keyed_route_lists, route_lists_after};
 use crate::rows::{faces_after, routers_after, same_links, sessions_after};
 use arc_base::{List, Memory};
 use edit_list::{Edit, chosen_edits};
@@ -30,9 +29,9 @@ pub fn after(
     let changes = Changes::of(alloc, net, chosen_edits(alloc, edits.slice(), chosen)?)?;
     let (names, named) = new_named(alloc, net, &changes)?;
     let faces = net.faces.len();
-    let packets = keyed_packet_lists(alloc, net, &named)?;
+    let packets = keyed_lists(alloc, &net.packet_lists, &named)?;
     let (packets, packet_places) = placed_lists(alloc, net.packet_lists.len(), faces, packets)?;
-    let routes = keyed_route_lists(alloc, net, &named)?;
+    let routes = keyed_lists(alloc, &net.route_lists, &named)?;
     let (routes, route_places) = placed_lists(alloc, net.route_lists.len(), faces, routes)?;
     Ok(Network {
         protocol: net.protocol,
@@ -40,7 +39,7 @@ pub fn after(
         faces: faces_after(alloc, net, &changes, &packet_places)?,
         sessions: sessions_after(alloc, net, &changes, &route_places)?,
         links: same_links(alloc, net)?,
-        packet_lists: packet_lists_after(alloc, net, &changes, packets.slice())?,
-        route_lists: route_lists_after(alloc, net, &changes, routes.slice())?,
+        packet_lists: lists_after(alloc, net, &changes, packets.slice())?,
+        route_lists: lists_after(alloc, net, &changes, routes.slice())?,
     })
 }

@@ -1,11 +1,11 @@
 //! The new lists that the edits make, with their names.
-ghost use Rattle.std.specs.Prelude.{◌≡◌, ◌<◌, ◌+◌, ◌^◌, [], Some, All, length, slice_get};
-ghost use Rattle.std.specs.Prelude.{slice_set, slice_index, slice_index_or, IfOk, OnOk};
-ghost use Rattle.std.specs.List.{filter_map};
-ghost use Rattle.edit_list.specs.NewLists.{new_route_list, new_packet_list, new_lists};
 ghost use Rattle.arc_base.specs.Numbered.{placed};
+ghost use Rattle.edit_list.specs.NewLists.{new_route_list, new_packet_list, new_lists};
 ghost use Rattle.edit_space.specs.Working.{AreChanges, AreNewNames, AreNamed, HasNext, AreMade};
 ghost use Rattle.net_model.specs.Validity.{IsValid};
+ghost use Rattle.std.specs.List.{filter_map};
+ghost use Rattle.std.specs.Prelude.{◌≡◌, ◌<◌, ◌+◌, ◌^◌, [], Some, All, length, slice_get};
+ghost use Rattle.std.specs.Prelude.{slice_set, slice_index, slice_index_or, IfOk, OnOk};
 
 use crate::changes::Changes;
 use crate::names::free_names;

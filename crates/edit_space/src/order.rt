@@ -1,8 +1,8 @@
 //! The order of lists: by router, and then in byte order of names.
-ghost use Rattle.std.specs.Prelude.{◌≡◌, ◌≢◌, ◌↔◌, ◌<◌, ◌^◌, length, slice_set, Contains, All};
-ghost use Rattle.std.specs.Prelude.{AllPairs, IfOk};
 ghost use Rattle.edit_list.specs.Ordered.{IsKeyBefore};
 ghost use Rattle.edit_space.specs.Working.{key_of, compare_keys, IsWithin, ArePlaces, AreInPlace};
+ghost use Rattle.std.specs.Prelude.{◌≡◌, ◌≢◌, ◌↔◌, ◌<◌, ◌^◌, length, slice_set, Contains, All};
+ghost use Rattle.std.specs.Prelude.{AllPairs, IfOk};
 
 use arc_base::{List, Memory, Name};
 use edit_list::Site;
@@ -43,7 +43,7 @@ fn in_order(lists: Vec<Keyed>) -> Result<List<Keyed>, Memory>
 pub struct Places {
     /// For each list that there was.
     pub bound: Vec<u32>,
-    /// For each interface with a new list; what is said of the others means nothing.
+    /// The place of the new list, by interface; any number where there is none.
     pub new: Vec<u32>,
 }
 

@@ -1,10 +1,10 @@
 //! The routers, interfaces and sessions after edits.
-ghost use Rattle.std.specs.Prelude.{◌≡◌, ◌<◌, length, map, not, All, IfOk};
+ghost use Rattle.arc_base.specs.Numbered.{placed, is_empty, IsTableOf, EachRow};
 ghost use Rattle.edit_list.specs.After.{IsRouterAfter, turned_if, passive_after};
 ghost use Rattle.edit_list.specs.Changes.{turns_session, new_classes, new_prefixes};
 ghost use Rattle.edit_list.specs.NewLists.{new_names_of};
-ghost use Rattle.arc_base.specs.Numbered.{placed, is_empty, IsTableOf, EachRow};
 ghost use Rattle.edit_space.specs.Working.{AreChanges, moved, bound_at, face_after, session_after};
+ghost use Rattle.std.specs.Prelude.{◌≡◌, ◌<◌, length, map, not, All, IfOk};
 
 use crate::changes::Changes;
 use crate::names::joined_names;

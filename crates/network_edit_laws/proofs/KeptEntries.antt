@@ -37,7 +37,8 @@ module _ (net after : Network) (doc : Document) (list : List Edit) (flags : List
   class_there : (c : Class) → (e : Edit) × Contains (chosen_of list flags) e × (class_put e ≡ Some c) → Contains are.classes c
   class_there c (e, one, puts) = class_listed net are.destinations are.classes e c (subst (λ (l : List Edit). Contains l e) are.all (chosen_listed list flags e one)) puts
 
-  edited_entry : (place : ℕ) (was : PacketList) (e : PacketEntry) → slice_get net.packet_lists place ≡ Some was → Contains (with_classes was.entries (list_classes (chosen_of list flags) place)) e → Was e
+  edited_entry : (place : ℕ) (was : PacketList) (e : PacketEntry) → slice_get net.packet_lists place ≡ Some was →
+      Contains (with_classes was.entries (list_classes (chosen_of list flags) place)) e → Was e
   edited_entry place was e at there =
       elim (Contains-append_cases (map (opposite_packet_entry was.entries) (list_classes (chosen_of list flags) place)) was.entries e there) [
         | inl new ↦

@@ -1,4 +1,3 @@
-pub mod Apart
 pub mod NewEntries
 pub mod Changed
 pub mod Told

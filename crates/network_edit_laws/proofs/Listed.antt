@@ -1,26 +1,22 @@
 -- Chosen edits are edits of the list, and what they put into lists are destinations and classes of the document.
-use Rattle.std.proofs.Common.{◌≡◌, ℕ, ◌==◌, inl, inr, Bool, true, false, Option, Some, None, List, [], ◌∷◌, ◌++◌, map, refl, ap, subst, if◌then◌else◌}
+use Rattle.std.proofs.Common.{◌≡◌, ℕ, ◌==◌, inl, inr, Bool, true, false, Option, Some, None, List, [], ◌∷◌, refl, ap, subst, if◌then◌else◌}
 use Rattle.std.specs.Prelude.{Contains, IsTrue}
-use Rattle.std.specs.List.{filter_map, flat_map, zip}
-use Rattle.std.proofs.lemmas.List.Elements.{Contains-append_cases}
+use Rattle.std.specs.List.{filter_map, zip}
 use Rattle.std.proofs.lemmas.Option.{none-some, same_Some}
-use Rattle.arc_base.proofs.Items.{All-from, Contains-head, Contains-tail, Contains-cases, Contains-none, from_map, from_filter, from_piece}
-use Rattle.arc_base.specs.declared.place.Face.{Face}
+use Rattle.arc_base.proofs.Items.{All-from, Contains-head, Contains-tail, Contains-cases, Contains-none, from_filter}
 use Rattle.arc_base.specs.declared.prefix.Prefix.{Prefix}
 use Rattle.net_model.specs.declared.policies.Class.{Class}
 use Rattle.net_model.specs.declared.policies.Document.{Document}
 use Rattle.net_model.specs.declared.rows.Network.{Network}
 use Rattle.edit_list.specs.declared.edit_kinds.Edit.{Edit}
 use Rattle.edit_list.specs.declared.edit_kinds.Edit.TheVariants as edits
-use Rattle.edit_list.specs.declared.sites.Site.{Site}
-use Rattle.edit_list.specs.declared.sites.Site.TheVariants.{Bound, New}
 use Rattle.edit_list.specs.Changes.{packet_list_change, new_packet_change, list_classes, new_classes}
-use Rattle.edit_list.specs.EditLists.{has_session, edits_at, link_edits, route_edit, packet_edit, all_edits, writable_classes, AreEdits}
+use Rattle.edit_list.specs.EditLists.{all_edits, writable_classes, AreEdits}
 use Rattle.network_edit_laws.specs.Laws.{PacketEditsAreWritable, ChosenClassesAreWritable}
 use Rattle.arc_base.specs.Numbered.{if_number, of_number}
 use Rattle.edit_list.specs.Prices.{if_chosen, chosen_of}
-use Rattle.edit_list.specs.Sites.{route_sites, packet_sites}
 use Rattle.edit_list.specs.Writable.{is_writable}
+use Rattle.edit_list.proofs.EditsFrom.{IsFrom, edit_from}
 use Rattle.edit_list.proofs.NewListFacts.{picked_from}
 
 zip_first : {X Y : Type 0} (xs : List X) (ys : List Y) (p : X × Y) → Contains (zip xs ys) p → Contains xs p.0
@@ -59,27 +55,13 @@ class_put (edits.RouteNew face prefix) = None
 class_put (edits.PacketList list class) = Some class
 class_put (edits.PacketNew face class) = Some class
 
--- the prefix of an entry that the edit puts into a list
-abbrev pub prefix_put : Edit → Option Prefix
-prefix_put (edits.Session face) = None
-prefix_put (edits.RouteList list prefix) = Some prefix
-prefix_put (edits.RouteNew face prefix) = Some prefix
-prefix_put (edits.PacketList list class) = None
-prefix_put (edits.PacketNew face class) = None
-
 listed_class : (e : Edit) (n : ℕ) (c : Class) → packet_list_change e ≡ Some (n, c) → class_put e ≡ Some c
-listed_class (edits.Session face) n c h = absurd (none-some (n, c) h)
-listed_class (edits.RouteList list prefix) n c h = absurd (none-some (n, c) h)
-listed_class (edits.RouteNew face prefix) n c h = absurd (none-some (n, c) h)
 listed_class (edits.PacketList list class) n c h = ap (λ (p : ℕ × Class). Some p.1) (same_Some (list.0, class) (n, c) h)
-listed_class (edits.PacketNew face class) n c h = absurd (none-some (n, c) h)
+listed_class other n c h = absurd (none-some (n, c) h)
 
 new_class : (e : Edit) (n : ℕ) (c : Class) → new_packet_change e ≡ Some (n, c) → class_put e ≡ Some c
-new_class (edits.Session face) n c h = absurd (none-some (n, c) h)
-new_class (edits.RouteList list prefix) n c h = absurd (none-some (n, c) h)
-new_class (edits.RouteNew face prefix) n c h = absurd (none-some (n, c) h)
-new_class (edits.PacketList list class) n c h = absurd (none-some (n, c) h)
 new_class (edits.PacketNew face class) n c h = ap (λ (p : ℕ × Class). Some p.1) (same_Some (face.0, class) (n, c) h)
+new_class other n c h = absurd (none-some (n, c) h)
 
 module _ (chosen : List Edit) (place : ℕ) where
   pub class_of_list : (c : Class) → Contains (list_classes chosen place) c → (e : Edit) × Contains chosen e × (class_put e ≡ Some c)
@@ -94,65 +76,19 @@ module _ (chosen : List Edit) (place : ℕ) where
       let from = picked_from new_packet_change chosen (n.0, c) n.1 in
       (from.0, from.1, new_class from.0 n.0 c from.2)
 
--- what an edit of the list puts into lists: an entry for a class that one entry can speak for, or for a destination
+-- the classes that edits put into lists are those of the document for which one entry can speak
 module _ (net : Network) (destinations : List Prefix) (classes : List Class) where
-  abbrev IsGood : Edit → Type 0
-  IsGood e =
-      ((c : Class) → class_put e ≡ Some c → Contains (writable_classes classes) c) × ((p : Prefix) → prefix_put e ≡ Some p → Contains destinations p)
-
-  good_session : (b : Bool) (face : Face) (e : Edit) → Contains (if b then edits.Session face ∷ [] else []) e → IsGood e
-  good_session false face e there = absurd (Contains-none e there)
-  good_session true face e there = elim (Contains-cases (edits.Session face) e [] there) [
-    | inl same ↦ subst IsGood same (λ c h. absurd (none-some c h), λ p h. absurd (none-some p h))
-    | inr none ↦ absurd (Contains-none e none)
-  ]
-
-  good_route : (site : Site) (p : Prefix) → Contains destinations p → IsGood (route_edit site p)
-  good_route (Bound list) p one = (λ c h. absurd (none-some c h), λ q h. subst (λ (r : Prefix). Contains destinations r) (same_Some p q h) one)
-  good_route (New face) p one = (λ c h. absurd (none-some c h), λ q h. subst (λ (r : Prefix). Contains destinations r) (same_Some p q h) one)
-
-  good_packet : (site : Site) (c : Class) → Contains (writable_classes classes) c → IsGood (packet_edit site c)
-  good_packet (Bound list) c one =
-      (λ d h. subst (λ (x : Class). Contains (writable_classes classes) x) (same_Some c d h) one, λ q h. absurd (none-some q h))
-  good_packet (New face) c one =
-      (λ d h. subst (λ (x : Class). Contains (writable_classes classes) x) (same_Some c d h) one, λ q h. absurd (none-some q h))
-
-  good_sessions : (e : Edit) → Contains (flat_map (link_edits net) net.links) e → IsGood e
-  good_sessions e there =
-      let from = from_piece (link_edits net) net.links e there in
-      elim (Contains-append_cases (edits_at net from.0.a) (edits_at net from.0.b) e from.2) [
-        | inl a ↦ good_session (has_session net.protocol net from.0.a) from.0.a e a
-        | inr b ↦ good_session (has_session net.protocol net from.0.b) from.0.b e b
-      ]
-
-  good_routes : (e : Edit) → Contains (flat_map (λ site. map (route_edit site) destinations) (route_sites net)) e → IsGood e
-  good_routes e there =
-      let from = from_piece (λ site. map (route_edit site) destinations) (route_sites net) e there in
-      let one = from_map (route_edit from.0) destinations e from.2 in
-      subst IsGood one.2 (good_route from.0 one.0 one.1)
-
-  good_packets : (e : Edit) → Contains (flat_map (λ site. map (packet_edit site) (writable_classes classes)) (packet_sites net)) e → IsGood e
-  good_packets e there =
-      let from = from_piece (λ site. map (packet_edit site) (writable_classes classes)) (packet_sites net) e there in
-      let one = from_map (packet_edit from.0) (writable_classes classes) e from.2 in
-      subst IsGood one.2 (good_packet from.0 one.0 one.1)
-
-  all_good : (e : Edit) → Contains (all_edits net destinations classes) e → IsGood e
-  all_good e there =
-      elim (Contains-append_cases (flat_map (link_edits net) net.links ++ flat_map (λ site. map (route_edit site) destinations) (route_sites net)) (flat_map (λ site. map (packet_edit site) (writable_classes classes)) (packet_sites net)) e there) [
-        | inl front ↦ elim (Contains-append_cases (flat_map (link_edits net) net.links) (flat_map (λ site. map (route_edit site) destinations) (route_sites net)) e front) [
-          | inl session ↦ good_sessions e session
-          | inr route ↦ good_routes e route
-        ]
-        | inr packet ↦ good_packets e packet
-      ]
+  class_from : (e : Edit) (c : Class) → IsFrom net destinations classes e → class_put e ≡ Some c → Contains (writable_classes classes) c
+  class_from (edits.PacketList list d) c from puts = subst (λ (x : Class). Contains (writable_classes classes) x) (same_Some d c puts) from.1
+  class_from (edits.PacketNew face d) c from puts = subst (λ (x : Class). Contains (writable_classes classes) x) (same_Some d c puts) from.1
+  class_from other c from puts = absurd (none-some c puts)
 
   pub class_listed : (e : Edit) (c : Class) → Contains (all_edits net destinations classes) e → class_put e ≡ Some c → Contains classes c
-  class_listed e c there puts = (from_filter (λ (class : Class). is_writable class.service) classes c ((all_good e there).0 c puts)).0
+  class_listed e c there puts = (from_filter (λ (class : Class). is_writable class.service) classes c (class_from e c (edit_from net destinations classes e there) puts)).0
 
   -- it can be written
   pub class_writable : (e : Edit) (c : Class) → Contains (all_edits net destinations classes) e → class_put e ≡ Some c → IsTrue (is_writable c.service)
-  class_writable e c there puts = (from_filter (λ (class : Class). is_writable class.service) classes c ((all_good e there).0 c puts)).1
+  class_writable e c there puts = (from_filter (λ (class : Class). is_writable class.service) classes c (class_from e c (edit_from net destinations classes e there) puts)).1
 
 -- what the edits of a network for a document put into lists can be written
 module _ (net : Network) (doc : Document) (list : List Edit) (are : AreEdits net doc list) where

@@ -167,9 +167,11 @@ module _ (net after : Network) (doc : Document) (list : List Edit) (flags : List
   classes_before policy classes c = record {
     sources = c.sources;
     destinations = c.destinations;
-    sources_are = leaves_too (source_marks after doc.policies) (source_marks net doc.policies) (turned (source_marks net doc.policies) (source_marks after doc.policies) sources) policy.from c.sources c.sources_are;
+    sources_are = leaves_too (source_marks after doc.policies) (source_marks net doc.policies)
+        (turned (source_marks net doc.policies) (source_marks after doc.policies) sources) policy.from c.sources c.sources_are;
     destinations_are =
-        leaves_too (destination_marks after doc.policies) (destination_marks net doc.policies) (turned (destination_marks net doc.policies) (destination_marks after doc.policies) destinations) policy.to c.destinations c.destinations_are;
+        leaves_too (destination_marks after doc.policies) (destination_marks net doc.policies)
+        (turned (destination_marks net doc.policies) (destination_marks after doc.policies) destinations) policy.to c.destinations c.destinations_are;
     services = c.services;
     services_are =
         same_service_leaves (service_marks after doc.policies) (service_marks net doc.policies) (λ s. ((services s).1, (services s).0)) policy.service c.services c.services_are;
@@ -187,8 +189,17 @@ classes_stay net after doc list flags are is policy classes = (classes_now net a
 
 pub all_classes_stay : AllClassesStay
 all_classes_stay net after doc list flags are is some classes = (
-  λ all. record { lists = all.lists; are = zip_along (AreClasses net doc.policies) (AreClasses after doc.policies) (classes_now net after doc list flags are is) some all.lists all.are; once = all.once },
-  λ all. record { lists = all.lists; are = zip_along (AreClasses after doc.policies) (AreClasses net doc.policies) (classes_before net after doc list flags are is) some all.lists all.are; once = all.once },
+  λ all. record {
+    lists = all.lists;
+    are = zip_along (AreClasses net doc.policies) (AreClasses after doc.policies) (classes_now net after doc list flags are is) some all.lists all.are;
+    once = all.once;
+  },
+  λ all. record {
+    lists = all.lists;
+    are = zip_along (AreClasses after doc.policies) (AreClasses net doc.policies)
+        (classes_before net after doc list flags are is) some all.lists all.are;
+    once = all.once;
+  },
 )
 
 pub lists_stay_uniform : ListsStayUniform

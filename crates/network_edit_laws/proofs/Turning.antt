@@ -60,7 +60,8 @@ module _ (base : List PacketEntry) (p : Packet) where
       (false_from_ne_true (matches p (opposite_packet_entry base c)) (λ hit. none c (Contains-head c cs) (of_class c hit))) ∙
       others_stay cs (λ d there. none d (Contains-tail c d cs there))
 
-  classes_turn : (classes : List Class) → All (IsUniform base) classes → (class : Class) → Contains classes class → IsOf class p → permits (map (opposite_packet_entry base) classes ++ base) p ≡ not (permits base p)
+  classes_turn : (classes : List Class) → All (IsUniform base) classes → (class : Class) → Contains classes class → IsOf class p →
+      permits (map (opposite_packet_entry base) classes ++ base) p ≡ not (permits base p)
   classes_turn [] uniform class there of_p = absurd (Contains-none class there)
   classes_turn (c ∷ cs) uniform class there of_p = by (λ after. classes_turn cs rest class after of_p) (matches p (opposite_packet_entry base c)) refl
     where
@@ -76,7 +77,8 @@ module _ (base : List PacketEntry) (p : Packet) where
         | inr after ↦ after
       ]
 
-      by : (Contains cs class → permits (map (opposite_packet_entry base) cs ++ base) p ≡ not (permits base p)) → (b : Bool) → matches p (opposite_packet_entry base c) ≡ b → permits (map (opposite_packet_entry base) (c ∷ cs) ++ base) p ≡ not (permits base p)
+      by : (Contains cs class → permits (map (opposite_packet_entry base) cs ++ base) p ≡ not (permits base p)) → (b : Bool) →
+          matches p (opposite_packet_entry base c) ≡ b → permits (map (opposite_packet_entry base) (c ∷ cs) ++ base) p ≡ not (permits base p)
       by more true hit =
           packet_hit (opposite_packet_entry base c) (matches p (opposite_packet_entry base c)) (find (matches p) (map (opposite_packet_entry base) cs ++ base)) hit ∙
           ap not (here (first_packet c) p (first_is_of c) (of_class c hit))
@@ -105,7 +107,8 @@ module _ (base : List RouteEntry) (p : Prefix) where
   other_prefixes_stay [] none = refl
   other_prefixes_stay (q ∷ qs) none =
       route_miss (opposite_route_entry base q) (route_matches p (opposite_route_entry base q)) (find (route_matches p) (map (opposite_route_entry base) qs ++ base))
-      (false_from_ne_true (route_matches p (opposite_route_entry base q)) (λ hit. none (subst (λ (r : Prefix). Contains (q ∷ qs) r) (sym (exactly (not (route_permits base q)) p q hit)) (Contains-head q qs)))) ∙
+      (false_from_ne_true (route_matches p (opposite_route_entry base q))
+      (λ hit. none (subst (λ (r : Prefix). Contains (q ∷ qs) r) (sym (exactly (not (route_permits base q)) p q hit)) (Contains-head q qs)))) ∙
       other_prefixes_stay qs (λ there. none (Contains-tail q p qs there))
 
   prefixes_turn : (prefixes : List Prefix) → Contains prefixes p → route_permits (map (opposite_route_entry base) prefixes ++ base) p ≡ not (route_permits base p)
@@ -118,7 +121,8 @@ module _ (base : List RouteEntry) (p : Prefix) where
         | inr after ↦ after
       ]
 
-      by : (Contains qs p → route_permits (map (opposite_route_entry base) qs ++ base) p ≡ not (route_permits base p)) → (b : Bool) → route_matches p (opposite_route_entry base q) ≡ b → route_permits (map (opposite_route_entry base) (q ∷ qs) ++ base) p ≡ not (route_permits base p)
+      by : (Contains qs p → route_permits (map (opposite_route_entry base) qs ++ base) p ≡ not (route_permits base p)) → (b : Bool) →
+          route_matches p (opposite_route_entry base q) ≡ b → route_permits (map (opposite_route_entry base) (q ∷ qs) ++ base) p ≡ not (route_permits base p)
       by more true hit =
           route_hit (opposite_route_entry base q) (route_matches p (opposite_route_entry base q)) (find (route_matches p) (map (opposite_route_entry base) qs ++ base)) hit ∙
           ap (λ (r : Prefix). not (route_permits base r)) (sym (exactly (not (route_permits base q)) p q hit))

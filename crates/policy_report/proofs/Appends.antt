@@ -54,7 +54,8 @@ two_runs old first t₁ t₂ t₃ t₄ a b e₁ e₂ e₃ e₄ =
     ∙ append_assoc old (first ++ after_spaces (a ++ b)) (10 ∷ [])
 
 -- the same, where the second run is one word
-pub run_and_word : (old first t₁ t₂ t₃ t₄ : List ℕ) (a : List (List ℕ)) (word : List ℕ) → t₁ ≡ old ++ first → t₂ ≡ t₁ ++ after_spaces a → t₃ ≡ t₂ ++ 32 ∷ word → t₄ ≡ t₃ ++ 10 ∷ [] → t₄ ≡ old ++ line first (a ++ word ∷ [])
+pub run_and_word : (old first t₁ t₂ t₃ t₄ : List ℕ) (a : List (List ℕ)) (word : List ℕ) → t₁ ≡ old ++ first → t₂ ≡ t₁ ++ after_spaces a → t₃ ≡ t₂ ++ 32 ∷ word →
+    t₄ ≡ t₃ ++ 10 ∷ [] → t₄ ≡ old ++ line first (a ++ word ∷ [])
 run_and_word old first t₁ t₂ t₃ t₄ a word e₁ e₂ e₃ e₄ =
     two_runs old first t₁ t₂ t₃ t₄ a (word ∷ []) e₁ e₂ (e₃ ∙ ap (λ t. t₂ ++ 32 ∷ t) (sym (append-nil word))) e₄
 

@@ -13,8 +13,9 @@ use Rattle.net_model.specs.declared.verdicts.Verdict.TheVariants.{Closed, Paths,
 use Rattle.net_model.specs.Validity.{IsValid}
 use Rattle.policy_report.specs.Lines.{line}
 use Rattle.policy_report.specs.Reports.{kind_word, answer_word, class_words, packet_words, link_words, side_words, closed_line, path_line, witness_lines, block_text, blocks_text}
-use Rattle.policy_report.specs.Rereading.{AreLinks, IsTold}
-use Rattle.policy_report.proofs.LineWords.{IsSide, closed_text, path_text, cut_words, witness_texts, are_closed_words, are_path_words, are_walk_words, are_denied_words, are_cut_words, are_side_line_words, are_refused_words}
+use Rattle.policy_report.specs.Rereading.{AreLinks, CanBeWritten}
+use Rattle.policy_report.proofs.LineWords.{IsSide, closed_text, path_text, cut_words, witness_texts, are_closed_words}
+use Rattle.policy_report.proofs.LineWords.{are_path_words, are_walk_words, are_denied_words, are_cut_words, are_side_line_words, are_refused_words}
 use Rattle.policy_report.proofs.Ended.{EndsLine, nothing_ends, line_ends, both_end, all_end}
 use Rattle.policy_report.proofs.FirstLines.{heading_words}
 use Rattle.policy_report.proofs.Spaced.{IsWord, AreWords, joined, line_first}
@@ -61,7 +62,7 @@ are_first_words net number policy v small few =
 
 module _ (net : Network) (valid : IsValid net) where
   -- the lines of a witness
-  witness_lines_of : (v : Verdict) (rest : List ℕ) → IsTold net v → lines (concat (witness_lines net v) ++ rest) ≡ witness_texts net v ++ lines rest
+  witness_lines_of : (v : Verdict) (rest : List ℕ) → CanBeWritten net v → lines (concat (witness_lines net v) ++ rest) ≡ witness_texts net v ++ lines rest
   witness_lines_of (Closed sides) rest told =
       item_lines (λ s. IsSide net s.side) (codes "closed") (λ s. class_words s.class ++ side_words net.routers s.side) (λ s h. are_closed_words net valid s) sides rest told.0
   witness_lines_of (Paths paths) rest told =
@@ -77,7 +78,7 @@ module _ (net : Network) (valid : IsValid net) where
       (are_refused_words net valid packet link told)
 
   -- the lines of a block
-  block_lines_of : (number : ℕ) (policy : Policy) (v : Verdict) (rest : List ℕ) → number ≤ 4294967295 → length (witness_lines net v) ≤ 4294967295 → IsTold net v →
+  block_lines_of : (number : ℕ) (policy : Policy) (v : Verdict) (rest : List ℕ) → number ≤ 4294967295 → length (witness_lines net v) ≤ 4294967295 → CanBeWritten net v →
       lines (block_text number net policy v ++ rest) ≡ first_text net number policy v ∷ (witness_texts net v ++ lines rest)
   block_lines_of number policy v rest small few told =
       first_of_text (decimal number) (kind_word policy.kind ∷ answer_word v ∷ decimal (length (witness_lines net v)) ∷ []) (concat (witness_lines net v)) rest
@@ -86,7 +87,7 @@ module _ (net : Network) (valid : IsValid net) where
 
   -- the lines of the blocks and the end, from the first block on
   pub blocks_lines_of : (number : ℕ) (policy : Policy) (policies : List Policy) (v : Verdict) (vs : List Verdict) (rest : List ℕ) →
-      number ≤ 4294967295 → length (witness_lines net v) ≤ 4294967295 → IsTold net v →
+      number ≤ 4294967295 → length (witness_lines net v) ≤ 4294967295 → CanBeWritten net v →
       lines (blocks_text number net (policy ∷ policies) (v ∷ vs) ++ rest) ≡
       first_text net number policy v ∷ (witness_texts net v ++ lines (blocks_text (number + 1) net policies vs ++ rest))
   blocks_lines_of number policy policies v vs rest small few told =
@@ -95,7 +96,7 @@ module _ (net : Network) (valid : IsValid net) where
 
   -- the same before other lines
   pub blocks_first : (number : ℕ) (policy : Policy) (policies : List Policy) (v : Verdict) (vs : List Verdict) →
-      number ≤ 4294967295 → length (witness_lines net v) ≤ 4294967295 → IsTold net v → (after : List (List ℕ)) →
+      number ≤ 4294967295 → length (witness_lines net v) ≤ 4294967295 → CanBeWritten net v → (after : List (List ℕ)) →
       lines (blocks_text number net (policy ∷ policies) (v ∷ vs)) ++ after ≡
       first_text net number policy v ∷ (witness_texts net v ++ (lines (blocks_text (number + 1) net policies vs) ++ after))
   blocks_first number policy policies v vs small few told after =
@@ -136,7 +137,7 @@ witness_size net (Denied class) = refl
 witness_size net (Cut links side) = refl
 witness_size net (Refused packet link) = refl
 
-pub few_lines : (net : Network) (v : Verdict) → IsTold net v → length (witness_lines net v) ≤ 4294967295
+pub few_lines : (net : Network) (v : Verdict) → CanBeWritten net v → length (witness_lines net v) ≤ 4294967295
 few_lines net (Closed sides) told = omega (arith, length-map sides (closed_line net), told.1)
 few_lines net (Paths paths) told = omega (arith, length-map paths path_line, told.1)
 few_lines net (Walk class path) told = omega arith

@@ -18,7 +18,8 @@ use Rattle.policy_report.specs.Rereading.{AreLinks}
 use Rattle.policy_report.specs.Steps.{grown, with_side, with_path}
 use Rattle.policy_report.proofs.Blocks.{Makes, MakeAll, with_item, added}
 use Rattle.policy_report.proofs.Counted.{first_item, no_items}
-use Rattle.policy_report.proofs.LineWords.{closed_text, path_text, closed_words, path_words, walk_words, denied_words, cut_words, side_line_words, refused_words, IsSide, are_closed_words, are_path_words, are_walk_words, are_denied_words, are_cut_words, are_side_line_words, are_refused_words}
+use Rattle.policy_report.proofs.LineWords.{closed_text, path_text, closed_words, path_words, walk_words, denied_words, cut_words, side_line_words}
+use Rattle.policy_report.proofs.LineWords.{refused_words, IsSide, are_closed_words, are_path_words, are_walk_words, are_denied_words, are_cut_words, are_side_line_words, are_refused_words}
 use Rattle.policy_report.proofs.Spaced.{words_read}
 use Rattle.policy_report.proofs.Spelled.{closed_read, path_read, walk_read, denied_read, cut_read, side_line_read, refused_read}
 

@@ -1,10 +1,11 @@
 -- No two edits of a network have one text.
-use Rattle.std.proofs.Common.{◌≡◌, ◌≢◌, ℕ, ◌^◌, ◌<◌, ◌==◌, ⊎_elim, true, false, List, [], ◌∷◌, ◌++◌, length, get_or, refl, sym, subst, ap, ◌∙◌, arith, codes, Option, Some}
-use Rattle.std.specs.Prelude.{AllPairs, bytes_eq, slice_get}
+use Rattle.std.proofs.Common.{◌≡◌, ◌≢◌, ℕ, ◌^◌, ◌<◌, ◌==◌, ◌⊎◌, ⊎_elim, inl, inr, Bool, true, false, cond, List, [], ◌∷◌, ◌++◌, length, get_or}
+use Rattle.std.proofs.Common.{find, refl, sym, subst, ap, ◌∙◌, arith, codes, Option, Some}
+use Rattle.std.specs.Prelude.{AllPairs, Contains, bytes_eq, slice_get}
 use Rattle.std.specs.Option.{option_map_or}
-use Rattle.std.proofs.lemmas.Bool.{cases_lt, eqb-true, false≢true}
+use Rattle.std.proofs.lemmas.Bool.{cases_lt, eq-eqb, eqb-true, false≢true}
 use Rattle.std.proofs.lemmas.Option.{same_Some, slice_get_within, slice_get-get_or, get_or_from_slice_get}
-use Rattle.arc_base.proofs.Items.{AllPairs-among}
+use Rattle.arc_base.proofs.Items.{Contains-cases, Contains-none, AllPairs-among}
 use Rattle.arc_base.proofs.AddressTexts.{address_of-address_text}
 use Rattle.arc_base.proofs.PrefixTexts.{exact}
 use Rattle.arc_base.specs.declared.place.Face.{Face}
@@ -16,17 +17,20 @@ use Rattle.net_model.specs.declared.lists.PacketList.{PacketList}
 use Rattle.net_model.specs.declared.lists.RouteList.{RouteList}
 use Rattle.net_model.specs.declared.policies.Class.{Class}
 use Rattle.net_model.specs.declared.rows.FaceRow.{FaceRow}
+use Rattle.net_model.specs.declared.rows.LinkRow.{LinkRow}
 use Rattle.net_model.specs.declared.rows.RouterRow.{RouterRow}
 use Rattle.net_model.specs.declared.rows.SessionRow.{SessionRow}
 use Rattle.net_model.specs.declared.rows.Network.{Network}
 use Rattle.net_model.specs.Routing.{session_at}
 use Rattle.net_model.specs.Validity.{IsValid, AreSessionsApart, IsValidPacketList, IsValidRouteList}
+use Rattle.net_model.proofs.Readings.{place_of_item}
 use Rattle.edit_list.specs.declared.edit_kinds.Edit.{Edit}
 use Rattle.edit_list.specs.declared.edit_kinds.Edit.TheVariants as edits
 use Rattle.policy_report.specs.Edits.{router_name, owner_name, face_name, neighbor_text, route_list_words, packet_list_words, edit_words, edit_text, HasAddresses, EditsAreToldApart}
 use Rattle.policy_report.specs.Readings.{line_words, class_at}
 use Rattle.policy_report.specs.Reports.{class_words}
-use Rattle.policy_report.proofs.EditsApart.{HasSession, IsThere, all_there, all_different}
+use Rattle.edit_list.proofs.EditsApart.{all_different}
+use Rattle.edit_list.proofs.EditsFrom.{IsFrom, edits_from}
 use Rattle.policy_report.proofs.EditWords.{at_place, found_passes, are_edit_words}
 use Rattle.policy_report.proofs.ServiceParts.{lone_class_read}
 use Rattle.policy_report.proofs.Spaced.{words_read}
@@ -70,6 +74,31 @@ record Row {X : Type 0} (xs : List X) (place : ℕ) : Type 0 where
 row_at : {X : Type 0} (xs : List X) (place : ℕ) → place < length xs → Row xs place
 row_at [] place within = absurd (omega (arith, within))
 row_at (x ∷ xs) place within = record { row = get_or (x ∷ xs) place x; at = slice_get-get_or (x ∷ xs) place x within }
+
+-- the row of the interface, of the list or of the session is there
+record HasSession (net : Network) (face : Face) : Type 0 where
+  pub session : SessionRow
+  pub found : session_at net face ≡ Some session
+
+abbrev IsThere : Network → Edit → Type 0
+IsThere net (edits.Session face) = face.0 < length net.faces
+IsThere net (edits.RouteList list prefix) = list.0 < length net.route_lists
+IsThere net (edits.RouteNew face prefix) = (face.0 < length net.faces) × HasSession net face
+IsThere net (edits.PacketList list class) = list.0 < length net.packet_lists
+IsThere net (edits.PacketNew face class) = face.0 < length net.faces
+
+-- where an item passes, one is found
+finds : {X : Type 0} (test : X → Bool) (xs : List X) (x : X) → Contains xs x → test x ≡ true → (t : X) × (find test xs ≡ Some t)
+finds test [] x there passes = absurd (Contains-none x there)
+finds {X} test (y ∷ xs) x there passes = by (test y) refl (λ later. finds test xs x later passes)
+  where
+    by : (b : Bool) → test y ≡ b → (Contains xs x → (t : X) × (find test xs ≡ Some t)) → (t : X) × (cond b (Some y) (find test xs) ≡ Some t)
+    by true e rest = (y, refl)
+    by false e rest =
+        elim (Contains-cases y x xs there) [
+          | inl same ↦ absurd (false≢true (sym e ∙ subst (λ (z : X). test z ≡ true) (sym same) passes))
+          | inr later ↦ rest later
+        ]
 
 module _ (net : Network) (valid : IsValid net) where
   -- one name, one router
@@ -276,6 +305,25 @@ module _ (net : Network) (valid : IsValid net) where
   same_edit addresses (edits.PacketNew f c) (edits.RouteList j q) h k e = absurd (other_word (codes "packet") (codes "route") refl (same_first (edits.PacketNew f c) (edits.RouteList j q) e) refl)
   same_edit addresses (edits.PacketNew f c) (edits.RouteNew g q) h k e = absurd (other_word (codes "packet") (codes "route") refl (same_first (edits.PacketNew f c) (edits.RouteNew g q) e) refl)
 
+  -- what an edit of the network is about is there
+  end_there : (face : Face) (link : LinkRow) → Contains net.links link → (face ≡ link.a) ⊎ (face ≡ link.b) → face.0 < length net.faces
+  end_there face link one ends =
+      let at = place_of_item net.links link one in
+      let is = valid.links at.0 link at.1 in
+      elim ends [
+        | inl a ↦ subst (λ (f : Face). f.0 < length net.faces) (sym a) (slice_get_within net.faces link.a.0 is.a is.a_is)
+        | inr b ↦ subst (λ (f : Face). f.0 < length net.faces) (sym b) (slice_get_within net.faces link.b.0 is.b is.b_is)
+      ]
+
+  there : (destinations : List Prefix) (all : List Class) (x : Edit) → IsFrom net destinations all x → IsThere net x
+  there destinations all (edits.Session face) h = end_there face h.0 h.1 h.2
+  there destinations all (edits.RouteList list prefix) h = h.0
+  there destinations all (edits.RouteNew face prefix) h =
+      let found = finds (λ (s : SessionRow). s.face.0 == face.0) net.sessions h.0.session h.0.one (eq-eqb h.0.session.face.0 face.0 (ap (λ (f : Face). f.0) h.0.at)) in
+      (h.0.within, record { session = found.0; found = found.1 })
+  there destinations all (edits.PacketList list class) h = slice_get_within net.packet_lists list.0 h.0.row h.0.at
+  there destinations all (edits.PacketNew face class) h = slice_get_within net.faces face.0 h.0.row h.0.at
+
   -- one text, one edit
   one_edit : HasAddresses net → (x y : Edit) → IsThere net x → IsThere net y → edit_text net x ≡ edit_text net y → x ≡ y
   one_edit addresses x y h k e =
@@ -285,5 +333,7 @@ module _ (net : Network) (valid : IsValid net) where
 pub edits_are_told_apart : EditsAreToldApart
 edits_are_told_apart net doc list valid addresses are =
     AllPairs-among (λ (x : Edit) (y : Edit). x ≢ y) (λ (x : Edit) (y : Edit). ¬ (edit_text net x ≡ edit_text net y)) list
-    (λ x y in_x in_y differ e. differ (one_edit net valid addresses x y (all_there net doc list valid are x in_x) (all_there net doc list valid are y in_y) e))
+    (λ x y in_x in_y differ e.
+    let there_is = λ (z : Edit) (in_z : Contains list z). there net valid are.destinations are.classes z (edits_from net doc list are z in_z) in
+    differ (one_edit net valid addresses x y (there_is x in_x) (there_is y in_y) e))
     (all_different net doc list valid are)

@@ -1,5 +1,6 @@
 -- How long a report can get.
-use Rattle.std.proofs.Common.{◌≡◌, ℕ, ◌+◌, ◌*◌, ◌/◌, ◌%◌, ◌^◌, ◌<◌, ◌≤◌, ◌==◌, Bool, true, false, if◌then◌else◌, List, [], ◌∷◌, ◌++◌, length, map, ap, sym, subst, ◌∙◌, arith, All, length-append, append-nil, codes, decimal}
+use Rattle.std.proofs.Common.{◌≡◌, ℕ, ◌+◌, ◌*◌, ◌/◌, ◌%◌, ◌^◌, ◌<◌, ◌≤◌, ◌==◌, Bool, true, false, if◌then◌else◌, List}
+use Rattle.std.proofs.Common.{[], ◌∷◌, ◌++◌, length, map, ap, sym, subst, ◌∙◌, arith, All, length-append, append-nil, codes, decimal}
 use Rattle.std.specs.List.{AllZip, concat}
 use Rattle.std.specs.Net.Text.{dotted_text}
 use Rattle.std.proofs.lemmas.Fmt.{length-decimal-le}
@@ -25,7 +26,7 @@ use Rattle.policy_report.specs.Lengths.{IsShort, ReportsAreShort}
 use Rattle.policy_report.specs.Lines.{after_spaces, line}
 use Rattle.policy_report.specs.Reports.{kind_word, answer_word, link_words, side_words, class_words, packet_words, closed_line, path_line, refused_line, witness_lines, block_text, blocks_text}
 use Rattle.policy_report.specs.ServiceWords.{service_text, service_word, range_word, is_whole, service_words, range_words}
-use Rattle.policy_report.specs.Rereading.{AreLinks, IsTold, IsReadable}
+use Rattle.policy_report.specs.Rereading.{AreLinks, CanBeWritten, IsReadable}
 use Rattle.policy_report.proofs.BlockTexts.{few_lines}
 use Rattle.policy_report.proofs.ServiceTexts.{protocol_small, port_small}
 
@@ -40,7 +41,12 @@ links_length : (n : ℕ) (links : List Link) → n ≤ 1024 → All (λ l. l.0 <
 links_length n [] few h = omega arith
 links_length n (l ∷ links) few h =
     let within : l.0 < n = All-head (λ l. l.0 < n) l links h in
-    omega (arith, word_length (decimal (l.0 + 1)) (link_words links), length-decimal-le 4 (l.0 + 1) (omega arith) (omega arith) (omega arith), links_length n links few (All-tail (λ l. l.0 < n) l links h))
+    omega (
+      arith,
+      word_length (decimal (l.0 + 1)) (link_words links),
+      length-decimal-le 4 (l.0 + 1) (omega arith) (omega arith) (omega arith),
+      links_length n links few (All-tail (λ l. l.0 < n) l links h),
+    )
 
 sides_length : (routers : List RouterRow) (side : List Bool) → All (λ r. IsName r.name) routers → length (after_spaces (side_words routers side)) ≤ 65 * length routers
 sides_length [] side h = omega arith
@@ -171,7 +177,7 @@ module _ (net : Network) (valid : IsValid net) where
       )
 
   -- the lines of a witness
-  witness_length : (v : Verdict) → IsTold net v → IsShort v → length (concat (witness_lines net v)) ≤ 68485120
+  witness_length : (v : Verdict) → CanBeWritten net v → IsShort v → length (concat (witness_lines net v)) ≤ 68485120
   witness_length (Closed sides) told short = omega (arith, sides_lines sides)
   witness_length (Paths paths) told short = omega (arith, paths_lines paths told.0 short.1, short.0)
   witness_length (Walk class path) told short =
@@ -230,7 +236,7 @@ module _ (net : Network) (valid : IsValid net) where
   answer_length (Refused packet link) = omega arith
 
   -- a block
-  block_length : (number : ℕ) (policy : Policy) (v : Verdict) → number ≤ 4294967295 → IsTold net v → IsShort v → length (block_text number net policy v) ≤ 68485220
+  block_length : (number : ℕ) (policy : Policy) (v : Verdict) → number ≤ 4294967295 → CanBeWritten net v → IsShort v → length (block_text number net policy v) ≤ 68485220
   block_length number policy v small told short =
       let count : ℕ = length (witness_lines net v) in
       let few : count ≤ 4294967295 = few_lines net v told in

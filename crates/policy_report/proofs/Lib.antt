@@ -25,8 +25,6 @@ pub mod EditsFound
 mod EditWords
 mod LogsRead
 pub mod CertificatesRead
-mod Apart
-mod EditsApart
 pub mod EditsTold
 pub mod CertificatesTaken
 pub mod Lengths

@@ -64,7 +64,8 @@ FitsRefused net r = (r.1.0 < length net.links) × ((r.0.from < 2 ^ 32) × (r.0.t
 -- neither a space nor a control byte stands in them
 module _ (net : Network) (valid : IsValid net) where
   pub are_closed_words : (shown : ClassSide) → AreWords (closed_words net shown)
-  are_closed_words shown = (word _ refl, words_append (class_words shown.class) (side_words net.routers shown.side) (are_class_words shown.class) (sides_words net.routers shown.side valid.router_names))
+  are_closed_words shown =
+      (word _ refl, words_append (class_words shown.class) (side_words net.routers shown.side) (are_class_words shown.class) (sides_words net.routers shown.side valid.router_names))
 
   pub are_path_words : (path : LinkPath) → AreLinks net path.links → AreWords (path_words path)
   are_path_words path h = (word _ refl, links_words (length net.links) path.links valid.few_links h)

@@ -1,6 +1,8 @@
 -- Texts that a separator cuts in two: where no byte before it is the separator, it is the first, and
 -- what was cut is joined.
-use Rattle.std.proofs.Common.{◌≡◌, ℕ, ◌+◌, ◌^◌, ◌<◌, ◌≤◌, ◌==◌, ◌&&◌, not, nat_lt, Bool, true, false, cond, List, [], ◌∷◌, ◌++◌, length, get_or, take, drop, position, option_map, Option, Some, None, All, refl, sym, ap, ◌∙◌, arith, lt-ltb, eq-eqb, ne_eqb, append_assoc, length-append, drop-cons, add-one, take-append-drop, decimal}
+use Rattle.std.proofs.Common.{◌≡◌, ℕ, ◌+◌, ◌^◌, ◌<◌, ◌≤◌, ◌==◌, ◌&&◌, not, nat_lt, Bool, true, false, cond, List, [], ◌∷◌, ◌++◌, length, get_or, take}
+use Rattle.std.proofs.Common.{drop, position, option_map, Option, Some, None, All, refl, sym, ap, ◌∙◌, arith, lt-ltb, eq-eqb, ne_eqb, append_assoc, length-append, drop-cons, add-one}
+use Rattle.std.proofs.Common.{take-append-drop, decimal}
 use Rattle.std.specs.List.{position_or_len}
 use Rattle.std.proofs.lemmas.Bool.{and_parts, eqb-true, cond-false, le-ltb}
 use Rattle.std.proofs.lemmas.Fmt.{decimal_is_IsNumeral}
@@ -64,7 +66,8 @@ pub no_cut : (byte : ℕ) (text : List ℕ) → Lacks byte text → cut_at byte 
 no_cut byte text h =
     let p : ℕ → Bool = λ b. b == byte in
     ap (option_map (λ place. (take place text, drop (place + 1) text)))
-    (ap (λ (k : ℕ). cond (nat_lt k (length text)) (Some k) None) (none_at byte text h) ∙ cond-false (nat_lt (length text) (length text)) (Some (length text)) None (le-ltb (length text) (length text) (omega arith)))
+    (ap (λ (k : ℕ). cond (nat_lt k (length text)) (Some k) None) (none_at byte text h)
+    ∙ cond-false (nat_lt (length text) (length text)) (Some (length text)) None (le-ltb (length text) (length text) (omega arith)))
 
 -- what was cut is joined
 pub cut_joined : (byte : ℕ) (text xs ys : List ℕ) → cut_at byte text ≡ Some (xs, ys) → text ≡ xs ++ byte ∷ ys

@@ -1,5 +1,6 @@
 -- Which services a word names.
-use Rattle.std.proofs.Common.{◌≡◌, ◌≢◌, ℕ, ◌+◌, ◌*◌, ◌/◌, ◌%◌, ◌^◌, ◌<◌, ◌≤◌, ◌==◌, ◌&&◌, nat_le, Bool, true, false, cond, if◌then◌else◌, List, [], ◌∷◌, ◌++◌, Option, Some, None, option_and_then, decimal, codes, bytes_eq, All, IsTrue, refl, sym, ap, ap₂, subst, ◌∙◌, arith, append_assoc, le-leb, eq-eqb, ne_eqb}
+use Rattle.std.proofs.Common.{◌≡◌, ◌≢◌, ℕ, ◌+◌, ◌*◌, ◌/◌, ◌%◌, ◌^◌, ◌<◌, ◌≤◌, ◌==◌, ◌&&◌, nat_le, Bool, true, false, cond, if◌then◌else◌, List, [], ◌∷◌}
+use Rattle.std.proofs.Common.{◌++◌, Option, Some, None, option_and_then, decimal, codes, bytes_eq, All, IsTrue, refl, sym, ap, ap₂, subst, ◌∙◌, arith, append_assoc, le-leb, eq-eqb, ne_eqb}
 use Rattle.std.proofs.Math.Nat.{mod-add-div'}
 use Rattle.std.proofs.lemmas.Bool.{and_from, and_parts, cond-true, cond-false, leb-true, eqb-true, false≢true, cases_Bool}
 use Rattle.std.proofs.lemmas.Bool.Decides.{nat_tests}
@@ -13,7 +14,8 @@ use Rattle.arc_base.proofs.NumberTexts.{number_of-some, number_of-decimal}
 use Rattle.net_model.specs.declared.services.Service.{Service}
 use Rattle.net_model.specs.Services.{whole_service}
 use Rattle.arc_base.specs.NameForms.{IsName, is_name_byte}
-use Rattle.policy_report.specs.ServiceWords.{service_text, service_word, range_word, is_whole, service_of, range_from, after_colon, service_named, range_named, ServiceWordsAreExact, RangeWordsAreExact, NamesAreNoServices}
+use Rattle.policy_report.specs.ServiceWords.{service_text, service_word, range_word, is_whole, service_of, range_from}
+use Rattle.policy_report.specs.ServiceWords.{after_colon, service_named, range_named, ServiceWordsAreExact, RangeWordsAreExact, NamesAreNoServices}
 use Rattle.policy_report.proofs.SameServices.{whole_is, range_back, range_ends}
 use Rattle.policy_report.proofs.Separators.{Lacks, written, decimal_lacks, joined_cut, no_cut, cut_joined}
 

@@ -16,7 +16,7 @@ use Rattle.policy_report.specs.declared.drafts.Draft.{Draft}
 use Rattle.policy_report.specs.declared.drafts.Draft.TheVariants as drafts
 use Rattle.policy_report.specs.Readings.{asked_by, block_of}
 use Rattle.policy_report.specs.Reports.{answer_word, witness_lines, closed_line, path_line}
-use Rattle.policy_report.specs.Rereading.{IsAnswer, IsTold, AreLinks}
+use Rattle.policy_report.specs.Rereading.{MayHaveVerdict, CanBeWritten, AreLinks}
 use Rattle.policy_report.proofs.Blocks.{Makes, MakeAll, counted}
 use Rattle.policy_report.proofs.LineWords.{closed_text, path_text, witness_texts, IsSide}
 
@@ -48,7 +48,7 @@ module _ (net : Network) where
       Makes net (counted Paths drafts.Paths (length (map path_line paths))) (Paths paths) (map path_text paths)
   paths_make paths fit = items_make net Paths drafts.Paths path_text (λ p. AreLinks net p.links) (λ count v front h. h) paths _ (length-map paths path_line) fit
 
-  pub begins : (kind : PolicyKind) (v : Verdict) → IsAnswer kind v → IsTold net v → Begins net (asked_by kind) v
+  pub begins : (kind : PolicyKind) (v : Verdict) → MayHaveVerdict kind v → CanBeWritten net v → Begins net (asked_by kind) v
   begins kinds.Blocked (Closed sides) is told = record { block = counted Closed drafts.Sides (length (map (closed_line net) sides)); read = refl; makes = sides_make sides told.0 }
   begins kinds.Blocked (Walk class path) is told = record { block = Open drafts.Walk; read = refl; makes = (class, path, refl, refl, told) }
   begins kinds.Blocked (Paths paths) is told = absurd is

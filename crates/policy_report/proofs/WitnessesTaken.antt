@@ -20,15 +20,15 @@ use Rattle.policy_report.specs.declared.drafts.Draft.TheVariants as drafts
 use Rattle.policy_report.specs.declared.drafts.Asked.TheVariants as asks
 use Rattle.policy_report.specs.Readings.{asked_by, block_of}
 use Rattle.policy_report.specs.Reports.{answer_word, witness_lines, closed_line, path_line}
-use Rattle.policy_report.specs.Rereading.{IsAnswer, IsTold, AreLinks}
+use Rattle.policy_report.specs.Rereading.{MayHaveVerdict, CanBeWritten, AreLinks}
 use Rattle.policy_report.proofs.Blocks.{Makes, MakeAll, counted}
 use Rattle.policy_report.proofs.FirstLines.{choose, answered}
 use Rattle.policy_report.proofs.LineWords.{closed_text, path_text, witness_texts, IsSide}
 
 -- the verdict has this answer with so many lines, and these are they
 pub record IsBlock (net : Network) (kind : PolicyKind) (answer : List ℕ) (count : ℕ) (v : Verdict) (front : List (List ℕ)) : Type 0 where
-  pub is_answer : IsAnswer kind v
-  pub is_told : IsTold net v
+  pub is_answer : MayHaveVerdict kind v
+  pub is_told : CanBeWritten net v
   pub answer_is : answer ≡ answer_word v
   pub count_is : count ≡ length (witness_lines net v)
   pub front_is : front ≡ witness_texts net v
@@ -60,7 +60,7 @@ module _ (net : Network) (answer : List ℕ) (count : ℕ) (block : Block) (v : 
       is_block kind (verdict_of items.more) (v_is ∙ ap verdict_of items.whole) (has items.more items.fit (omega arith) items.told))
       (cases_eq count 0)
 
-  sides_told : (kind : PolicyKind) → ((sides : List ClassSide) → IsAnswer kind (Closed sides)) → answer ≡ codes "yes" → counted Closed drafts.Sides count ≡ block →
+  sides_told : (kind : PolicyKind) → ((sides : List ClassSide) → MayHaveVerdict kind (Closed sides)) → answer ≡ codes "yes" → counted Closed drafts.Sides count ≡ block →
       IsTheBlock kind v
   sides_told kind is_yes says_yes begun =
       items_told kind Closed drafts.Sides (closed_text net) (λ s. IsSide net s.side) (λ h. h)
@@ -74,7 +74,7 @@ module _ (net : Network) (answer : List ℕ) (count : ℕ) (block : Block) (v : 
       })
       begun
 
-  paths_told : (kind : PolicyKind) → ((paths : List LinkPath) → IsAnswer kind (Paths paths)) → answer ≡ codes "yes" → counted Paths drafts.Paths count ≡ block →
+  paths_told : (kind : PolicyKind) → ((paths : List LinkPath) → MayHaveVerdict kind (Paths paths)) → answer ≡ codes "yes" → counted Paths drafts.Paths count ≡ block →
       IsTheBlock kind v
   paths_told kind is_yes says_yes begun =
       items_told kind Paths drafts.Paths path_text (λ p. AreLinks net p.links) (λ h. h)
@@ -88,7 +88,7 @@ module _ (net : Network) (answer : List ℕ) (count : ℕ) (block : Block) (v : 
       })
       begun
 
-  walk_told : (kind : PolicyKind) → ((class : Class) (path : LinkPath) → IsAnswer kind (Walk class path)) → answer ≡ codes "no" →
+  walk_told : (kind : PolicyKind) → ((class : Class) (path : LinkPath) → MayHaveVerdict kind (Walk class path)) → answer ≡ codes "no" →
       (if count == 1 then Some (Open drafts.Walk) else None) ≡ Some block → IsTheBlock kind v
   walk_told kind is_no says_no begun =
       let (one, same) = cond_some (count == 1) (Open drafts.Walk) block begun in

@@ -24,15 +24,15 @@ use Rattle.policy_report.specs.Reports.{witness_lines, report_text}
 use Rattle.policy_report.specs.Steps.{Standing, start, step}
 
 -- a policy that asks this may have the verdict
-abbrev pub IsAnswer : PolicyKind → verdicts.Verdict → Type 0
-IsAnswer (kinds.Reach k) (Paths paths) = Unit {0}
-IsAnswer (kinds.Reach k) (Denied class) = Unit {0}
-IsAnswer (kinds.Reach k) (Cut links side) = Unit {0}
-IsAnswer (kinds.Reach k) (Refused packet link) = Unit {0}
-IsAnswer (kinds.Reach k) _ = ⊥
-IsAnswer _ (Closed sides) = Unit {0}
-IsAnswer _ (Walk class path) = Unit {0}
-IsAnswer _ _ = ⊥
+abbrev pub MayHaveVerdict : PolicyKind → verdicts.Verdict → Type 0
+MayHaveVerdict (kinds.Reach k) (Paths paths) = Unit {0}
+MayHaveVerdict (kinds.Reach k) (Denied class) = Unit {0}
+MayHaveVerdict (kinds.Reach k) (Cut links side) = Unit {0}
+MayHaveVerdict (kinds.Reach k) (Refused packet link) = Unit {0}
+MayHaveVerdict (kinds.Reach k) _ = ⊥
+MayHaveVerdict _ (Closed sides) = Unit {0}
+MayHaveVerdict _ (Walk class path) = Unit {0}
+MayHaveVerdict _ _ = ⊥
 
 -- the links are the network's
 abbrev pub AreLinks : Network → List Link → Type 0
@@ -40,21 +40,21 @@ AreLinks net links = All (λ l. l.0 < length net.links) links
 
 -- the witness can be written in lines: links are the network's, a side has a flag for each router,
 -- an address has 32 bits and a service 24, and the lines can be counted in 32 bits
-abbrev pub IsTold : Network → verdicts.Verdict → Type 0
-IsTold net (Closed sides) =
+abbrev pub CanBeWritten : Network → verdicts.Verdict → Type 0
+CanBeWritten net (Closed sides) =
     All (λ s. length s.side ≡ length net.routers) sides × (length sides ≤ 4294967295)
-IsTold net (Paths paths) = All (λ p. AreLinks net p.links) paths × (length paths ≤ 4294967295)
-IsTold net (Walk class path) = AreLinks net path.links
-IsTold net (Denied class) = Unit {0}
-IsTold net (Cut links side) = AreLinks net links × (length side ≡ length net.routers)
-IsTold net (Refused packet link) =
+CanBeWritten net (Paths paths) = All (λ p. AreLinks net p.links) paths × (length paths ≤ 4294967295)
+CanBeWritten net (Walk class path) = AreLinks net path.links
+CanBeWritten net (Denied class) = Unit {0}
+CanBeWritten net (Cut links side) = AreLinks net links × (length side ≡ length net.routers)
+CanBeWritten net (Refused packet link) =
     (link.0 < length net.links) ×
     ((packet.from < 2 ^ 32) × (packet.to < 2 ^ 32) × (packet.service < 2 ^ 24))
 
 -- the verdict on the policy can be written in a report
 pub record IsReadable (net : Network) (policy : Policy) (v : verdicts.Verdict) : Type 0 where
-  pub kind : IsAnswer policy.kind v
-  pub told : IsTold net v
+  pub kind : MayHaveVerdict policy.kind v
+  pub told : CanBeWritten net v
 
 -- what a reader answers to these lines, where the edits are these
 abbrev pub answers : Network → Document → List edits.Edit → Standing → List (List ℕ) →

@@ -1,6 +1,6 @@
 //! The second line of a repair, which says what is answered.
-ghost use Rattle.std.specs.Prelude.{◌≡◌, map};
 ghost use Rattle.policy_report.specs.Readings.{answer_with, answer_of};
+ghost use Rattle.std.specs.Prelude.{◌≡◌, map};
 
 use crate::reading::{after_word, count_of};
 

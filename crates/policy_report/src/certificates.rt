@@ -1,9 +1,9 @@
 //! The texts of certificates.
-ghost use Rattle.std.specs.Prelude.{◌≡◌, ◌++◌, ◌∷◌, [], length, IfOk, OnOk};
 ghost use Rattle.edit_list.specs.Prices.{chosen_of};
-ghost use Rattle.policy_report.specs.Edits.{edit_lines};
 ghost use Rattle.policy_report.specs.Certificates.{claim_line, shown_lines, log_lines};
 ghost use Rattle.policy_report.specs.Certificates.{certificate_text, budget_text, IsWholeClaim};
+ghost use Rattle.policy_report.specs.Edits.{edit_lines};
+ghost use Rattle.std.specs.Prelude.{◌≡◌, ◌++◌, ◌∷◌, [], length, IfOk, OnOk};
 
 use crate::edits::push_edit;
 use crate::reports::push_blocks;

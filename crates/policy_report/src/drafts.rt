@@ -47,8 +47,8 @@ pub(crate) struct Heading {
 }
 
 impl Asked {
-    ghost use Rattle.std.specs.Prelude.{◌≡◌};
     ghost use Rattle.policy_report.specs.Readings.{asked_by};
+    ghost use Rattle.std.specs.Prelude.{◌≡◌};
 
     /// What the policy of this kind asks.
     pub(crate) fn by(kind: PolicyKind) -> Asked

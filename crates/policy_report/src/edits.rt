@@ -1,10 +1,10 @@
 //! The texts of edits, and the edit that a text names.
-ghost use Rattle.std.specs.Prelude.{◌≡◌, ◌<◌, ◌++◌, ◌∷◌, [], bytes_eq, codes, length, IfOk, IfSome};
-ghost use Rattle.std.specs.Prelude.{OnOk};
-ghost use Rattle.policy_report.specs.Lines.{after_spaces};
 ghost use Rattle.policy_report.specs.Edits.{router_name, owner_name, face_name, neighbor_text};
 ghost use Rattle.policy_report.specs.Edits.{route_list_words, packet_list_words, edit_words};
 ghost use Rattle.policy_report.specs.Edits.{edit_text, edit_of, edit_from, IsTextAt};
+ghost use Rattle.policy_report.specs.Lines.{after_spaces};
+ghost use Rattle.std.specs.Prelude.{◌≡◌, ◌<◌, ◌++◌, ◌∷◌, [], bytes_eq, codes, length, IfOk, IfSome};
+ghost use Rattle.std.specs.Prelude.{OnOk};
 
 use crate::words::{push_address_word, push_class, push_prefix_word, push_word};
 use arc_base::{Face, List, ListId, Memory, Prefix, Router};

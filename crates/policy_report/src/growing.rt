@@ -1,7 +1,7 @@
 //! A block after its next line.
-ghost use Rattle.std.specs.Prelude.{◌≡◌, IfOk};
 ghost use Rattle.policy_report.specs.Readings.{line_words};
 ghost use Rattle.policy_report.specs.Steps.{grown, with_side, with_path};
+ghost use Rattle.std.specs.Prelude.{◌≡◌, IfOk};
 
 use crate::drafts::{Block, Draft};
 use crate::reading::{

@@ -1,7 +1,7 @@
 //! The first line of a block: the policy's number, what it asks, the answer, and how many lines the
 //! witness has.
-ghost use Rattle.std.specs.Prelude.{◌≡◌, map};
 ghost use Rattle.policy_report.specs.Readings.{asked_of, yes_of, block_of, heading_of};
+ghost use Rattle.std.specs.Prelude.{◌≡◌, map};
 
 use crate::drafts::{Asked, Block, Draft, Heading};
 use crate::reading::count_of;

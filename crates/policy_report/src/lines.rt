@@ -1,8 +1,8 @@
 //! The lines of witnesses.
-ghost use Rattle.std.specs.Prelude.{◌≡◌, ◌++◌, codes, OnOk};
 ghost use Rattle.policy_report.specs.Lines.{line};
 ghost use Rattle.policy_report.specs.Reports.{class_words, link_words, side_words, closed_line};
 ghost use Rattle.policy_report.specs.Reports.{path_line, refused_line};
+ghost use Rattle.std.specs.Prelude.{◌≡◌, ◌++◌, codes, OnOk};
 
 use crate::words::{push_class, push_count, push_links, push_packet, push_side};
 use arc_base::{Link, Memory};

@@ -1,11 +1,11 @@
 //! The reader of a certificate, line by line.
-ghost use Rattle.std.specs.Prelude.{◌≡◌, ◌<◌, [], IfSome, if◌then◌else◌};
 ghost use Rattle.arc_base.specs.Words.{words};
 ghost use Rattle.policy_report.specs.Readings.{answer_of, line_words};
 ghost use Rattle.policy_report.specs.Steps.{standing, start, next_line, fails, goes, goes_on};
 ghost use Rattle.policy_report.specs.Steps.{is_edit, is_of, is_yes, may_stand, closed, logs, head};
 ghost use Rattle.policy_report.specs.Steps.{answered, edited, editing, logging, proving, between};
 ghost use Rattle.policy_report.specs.Steps.{within, step, IsRead, IsSurelyRead};
+ghost use Rattle.std.specs.Prelude.{◌≡◌, ◌<◌, [], IfSome, if◌then◌else◌};
 
 use crate::answers::{Answer, answer_of};
 use crate::drafts::{Asked, Block, Draft, Heading};

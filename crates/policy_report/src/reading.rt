@@ -1,9 +1,9 @@
 //! What the lines of a report are read as. Each line has one spelling.
-ghost use Rattle.std.specs.Prelude.{◌≡◌, ◌↔◌, map, option_map, slice_get, Some, IfOk, IsTrue};
 ghost use Rattle.policy_report.specs.Readings.{line_words, count_of, link_of, all_links, side_of};
 ghost use Rattle.policy_report.specs.Readings.{services_at, class_at, service_at, packet_at};
 ghost use Rattle.policy_report.specs.Readings.{lone_link, after_word, closed_of, path_of, walk_of};
 ghost use Rattle.policy_report.specs.Readings.{denied_of, cut_of, side_line_of, refused_of};
+ghost use Rattle.std.specs.Prelude.{◌≡◌, ◌↔◌, map, option_map, slice_get, Some, IfOk, IsTrue};
 
 use crate::services::{range_named, service_named};
 use arc_base::{Link, List, Memory, read_address, read_number, read_prefix};

@@ -1,9 +1,9 @@
 //! The text of a report, in time linear in its bytes.
-ghost use Rattle.std.specs.Prelude.{◌≡◌, ◌++◌, ◌∷◌, [], length, IfOk, OnOk};
 ghost use Rattle.net_model.specs.declared.rows.Network.{Network};
 ghost use Rattle.policy_report.specs.Lines.{after_spaces};
 ghost use Rattle.policy_report.specs.Reports.{kind_word, answer_word, answer_line, block_text};
 ghost use Rattle.policy_report.specs.Reports.{blocks_text, report_text};
+ghost use Rattle.std.specs.Prelude.{◌≡◌, ◌++◌, ◌∷◌, [], length, IfOk, OnOk};
 
 use crate::witness::{count_lines, push_witness};
 use crate::words::{push_count, push_word};

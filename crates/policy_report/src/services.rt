@@ -1,12 +1,12 @@
 //! Services as words of a line: `service:P.N` for a service, `service:P.N-P.N` for a range of them.
 //! P is the protocol (0 to 255, as IANA assigns them) and N the destination port (0 to 65,535). The
 //! service 0 and the range of all services have no word.
-ghost use Rattle.std.specs.Prelude.{◌≡◌, ◌<◌, ◌^◌, ◌++◌, ◌∷◌, option_map, IfSome, OnOk};
 ghost use Rattle.policy_report.specs.Lines.{after_spaces};
 ghost use Rattle.policy_report.specs.ServiceWords.{service_text, service_word, range_word};
 ghost use Rattle.policy_report.specs.ServiceWords.{is_whole, service_words, range_words};
 ghost use Rattle.policy_report.specs.ServiceWords.{service_of, after_colon, service_named};
 ghost use Rattle.policy_report.specs.ServiceWords.{range_from, range_named};
+ghost use Rattle.std.specs.Prelude.{◌≡◌, ◌<◌, ◌^◌, ◌++◌, ◌∷◌, option_map, IfSome, OnOk};
 
 use arc_base::{Memory, cut_at, push_number, read_number};
 use net_model::Service;
@@ -79,7 +79,7 @@ pub(crate) fn push_class_services(
     push_range_word(alloc, text, range)
 }
 
-/// The service that is written so, if there is one.
+/// Parses a service.
 fn service_of(text: &[u8]) -> Option<u32>
     ensures value { result ≡ service_of text.now }
     ensures bits { IfSome result (λ service. service < 2 ^ 24) }

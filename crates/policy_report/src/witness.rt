@@ -1,8 +1,8 @@
 //! The lines of a verdict's witness, and how many they are.
-ghost use Rattle.std.specs.Prelude.{◌≡◌, ◌++◌, length, map, OnOk};
-ghost use Rattle.std.specs.List.{concat};
 ghost use Rattle.net_model.specs.declared.rows.Network.{Network};
 ghost use Rattle.policy_report.specs.Reports.{closed_line, path_line, witness_lines};
+ghost use Rattle.std.specs.List.{concat};
+ghost use Rattle.std.specs.Prelude.{◌≡◌, ◌++◌, length, map, OnOk};
 
 use crate::lines::{
     push_closed_line, push_cut_line, push_denied_line, push_path_line, push_refused_line,

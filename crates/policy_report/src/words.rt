@@ -1,8 +1,8 @@
 //! Words of a line, appended to a text with a space before each.
-ghost use Rattle.std.specs.Prelude.{◌≡◌, ◌++◌, [], ◌∷◌, cond, decimal, false, slice_index_or, OnOk};
 ghost use Rattle.arc_base.specs.PrefixText.{address_text, prefix_text};
 ghost use Rattle.policy_report.specs.Lines.{after_spaces};
 ghost use Rattle.policy_report.specs.Reports.{class_words, packet_words, link_words, side_words};
+ghost use Rattle.std.specs.Prelude.{◌≡◌, ◌++◌, [], ◌∷◌, cond, decimal, false, slice_index_or, OnOk};
 
 use crate::services::{push_class_services, push_packet_service};
 use arc_base::{Link, Memory, Prefix, push_address, push_number, push_prefix};

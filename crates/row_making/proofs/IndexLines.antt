@@ -42,17 +42,9 @@ told_from : (command : Command) (p : Prefix) → told_prefix command ≡ Some p 
 told_from (commands.Tells q) p e = ap commands.Tells (same_Some q p e)
 told_from other p e = absurd (none-some p e)
 
--- the prefix that a command tells
-pub told_added : (command : Command) (found : Option Prefix) → found ≡ told_prefix command → (Was Now : Type 0) (p : Prefix) → Now ↔ (Was ⊎ (found ≡ Some p)) → Now ↔ (Was ⊎ (command ≡ commands.Tells p))
-told_added command found is Was Now p grown = (λ h. to (grown.0 h), λ h. grown.1 (from h))
-  where
-    to : Was ⊎ (found ≡ Some p) → Was ⊎ (command ≡ commands.Tells p)
-    to (inl h) = inl h
-    to (inr e) = inr (told_from command p (sym is ∙ e))
-
-    from : Was ⊎ (command ≡ commands.Tells p) → Was ⊎ (found ≡ Some p)
-    from (inl h) = inl h
-    from (inr e) = inr (is ∙ ap told_prefix e)
+-- the prefixes that commands tell
+pub told_where : (lines : List (Given Command)) (p : Prefix) → Any (λ (g : Given Command). told_prefix g.value ≡ Some p) lines ↔ Any (λ (g : Given Command). g.value ≡ commands.Tells p) lines
+told_where lines p = (λ h. (h.0, h.1, h.2, h.3, told_from h.1.value p h.4), λ h. (h.0, h.1, h.2, h.3, ap told_prefix h.4))
 
 -- the addresses that a command covers
 covers_from : (address : ℕ) (command : Command) → CommandCovers address command → (p : Prefix) × (covered_prefix command ≡ Some p) × Holds p address

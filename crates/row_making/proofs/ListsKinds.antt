@@ -4,7 +4,8 @@ use Rattle.std.specs.Prelude.{option_map}
 use Rattle.net_model.specs.declared.lists.PacketList.{PacketList}
 use Rattle.net_model.specs.declared.lists.RouteList.{RouteList}
 use Rattle.ios_config.specs.declared.settings.ListText.{ListText}
-use Rattle.net_rules.specs.Lists.{IsBoundPacketList, IsBoundRouteList, IsPacketListRow, IsRouteListRow, packet_list_named, route_list_named, if_defined, packet_row, route_row, packet_row_at, route_row_at}
+use Rattle.net_rules.specs.Lists.{IsBoundPacketList, IsBoundRouteList, IsPacketListRow, IsRouteListRow, packet_list_named}
+use Rattle.net_rules.specs.Lists.{route_list_named, if_defined, packet_row, route_row, packet_row_at, route_row_at}
 use Rattle.row_making.proofs.ListsRows.{RowsOfKind, option_parts}
 
 -- a row has what it was made with

@@ -161,7 +161,8 @@ pub left_start : (whole : List (List ℕ)) (ks : List (Bor (List ℕ))) (left : 
 left_start whole ks left is = subst (λ (l : List (List ℕ)). AddsLeft whole ks ks l) (sym is) (λ name. (λ h. h, λ h. h))
 
 -- one more name
-pub left_more : (whole : List (List ℕ)) (ks ls ms : List (Bor (List ℕ))) (x : List ℕ) (left rest : List (List ℕ)) → left ≡ x ∷ rest → AddsLeft whole ks ls left → Adds (λ name. x ≡ name) ls ms → AddsLeft whole ks ms rest
+pub left_more : (whole : List (List ℕ)) (ks ls ms : List (Bor (List ℕ))) (x : List ℕ) (left rest : List (List ℕ)) → left ≡ x ∷ rest →
+    AddsLeft whole ks ls left → Adds (λ name. x ≡ name) ls ms → AddsLeft whole ks ms rest
 left_more whole ks ls ms x left rest is before adds name = (to, from)
   where
     at_start : (Contains (texts_at ls) name ⊎ Contains (x ∷ rest) name) ↔ (Contains (texts_at ks) name ⊎ Contains whole name)
@@ -200,7 +201,8 @@ left_none whole ks ls left none adds name = (λ h. (adds name).0 (inl h), from)
     ]
 
 -- one more name in a list
-pub listed_more : (old next whole : List (List ℕ)) (name : Bor (List ℕ)) (left rest : List (Bor (List ℕ))) → left ≡ name ∷ rest → old ++ texts_at left ≡ whole → next ≡ old ++ name.now ∷ [] → next ++ texts_at rest ≡ whole
+pub listed_more : (old next whole : List (List ℕ)) (name : Bor (List ℕ)) (left rest : List (Bor (List ℕ))) → left ≡ name ∷ rest → old ++ texts_at left ≡ whole →
+    next ≡ old ++ name.now ∷ [] → next ++ texts_at rest ≡ whole
 listed_more old next whole name left rest is was grown =
     ap (λ (l : List (List ℕ)). l ++ texts_at rest) grown ∙ append_assoc old (name.now ∷ []) (texts_at rest) ∙ ap (λ (l : List (Bor (List ℕ))). old ++ texts_at l) (sym is) ∙ was
 

@@ -1,17 +1,14 @@
 -- The rows of lists, file by file.
 use Rattle.std.proofs.Common.{◌≡◌, ℕ, ◌+◌, ◌<◌, ◌≤◌, inl, inr, Option, Some, None, List, [], ◌∷◌, ◌++◌, length, get_or, refl, sym, ◌∙◌, ap, subst, arith}
 use Rattle.std.specs.Prelude.{Contains, AllPairs, slice_get, option_map}
-use Rattle.std.specs.Option.{option_to_list}
 use Rattle.std.specs.List.{filter_map, cons_option}
 use Rattle.std.proofs.lemmas.Bool.{cases_lt}
-use Rattle.std.proofs.lemmas.List.{append_assoc, append-nil}
+use Rattle.std.proofs.lemmas.List.{append-nil}
 use Rattle.std.proofs.lemmas.List.Elements.{Contains-append_left, Contains-append_right, Contains-append_cases}
 use Rattle.std.proofs.lemmas.List.Kept.{AllPairs-cons}
 use Rattle.std.proofs.lemmas.Option.{none-some, same_Some, slice_get_within, slice_get-get_or}
 use denote.Ref.{Bor}
 use Rattle.ios_config.specs.declared.settings.Config.{Config}
-use Rattle.ios_config.specs.declared.settings.ListText.{ListText}
-use Rattle.net_rules.specs.Lists.{if_defined}
 use Rattle.row_making.specs.ListTables.{Adds, AddsRows}
 use Rattle.net_rules.specs.Ordered.{AreInOrder, IsPairBefore}
 use Rattle.arc_base.specs.NameForms.{IsNameBefore, texts_at}
@@ -21,22 +18,9 @@ pub option_parts : {X Y : Type 0} (f : X → Y) (o : Option X) (y : Y) → optio
 option_parts f None y e = absurd (none-some y e)
 option_parts f (Some x) y e = (x, refl, same_Some (f x) y e)
 
--- ---- rows while the names of a file are gone through
-as_cons : {X : Type 0} (o : Option X) (xs : List X) → option_to_list o ++ xs ≡ cons_option o xs
-as_cons None xs = refl
-as_cons (Some x) xs = refl
-
--- the rows of the names that are left
-pub rows_left : {R : Type 0} (row : List ℕ → ListText → R) (listed : List ℕ → Option ListText) (rows next whole : List R) (name : Bor (List ℕ)) (left rest : List (Bor (List ℕ))) (found : Option ListText) → left ≡ name ∷ rest → found ≡ listed name.now →
-    rows ++ filter_map (λ n. option_map (row n) (if_defined (listed n))) (texts_at left) ≡ whole → next ≡ rows ++ option_to_list (option_map (row name.now) (if_defined found)) →
-    next ++ filter_map (λ n. option_map (row n) (if_defined (listed n))) (texts_at rest) ≡ whole
-rows_left {R} row listed rows next whole name left rest found is at was grown =
-    let f : List ℕ → Option R = λ n. option_map (row n) (if_defined (listed n)) in
-    ap (λ l. l ++ filter_map f (texts_at rest)) (grown ∙ ap (λ (o : Option ListText). rows ++ option_to_list (option_map (row name.now) (if_defined o))) at) ∙ append_assoc rows (option_to_list (f name.now)) (filter_map f (texts_at rest)) ∙
-    ap (λ l. rows ++ l) (as_cons (f name.now) (filter_map f (texts_at rest))) ∙ ap (λ l. rows ++ filter_map f (texts_at l)) (sym is) ∙ was
-
 -- no names are left
-pub rows_added : {R : Type 0} (IsBound : List ℕ → Type 0) (f : List ℕ → Option R) (old now : List R) (left names keys : List (Bor (List ℕ))) → AreInOrder IsNameBefore IsBound (texts_at keys) → left ≡ [] → names ≡ keys →
+pub rows_added : {R : Type 0} (IsBound : List ℕ → Type 0) (f : List ℕ → Option R) (old now : List R) (left names keys : List (Bor (List ℕ))) →
+    AreInOrder IsNameBefore IsBound (texts_at keys) → left ≡ [] → names ≡ keys →
     now ++ filter_map f (texts_at left) ≡ old ++ filter_map f (texts_at names) → AddsRows IsBound f old now
 rows_added IsBound f old now left names keys bound none same was = record {
   names = texts_at keys;
@@ -77,7 +61,8 @@ from_result {X} {Y} f (x ∷ xs) y h = by (f x) refl h (λ k. from_result f xs y
     behind : (z : X) × Contains xs z × (f z ≡ Some y) → (z : X) × Contains (x ∷ xs) z × (f z ≡ Some y)
     behind (z, there, is) = (z, Contains-tail x z xs there, is)
 
-    by : (o : Option Y) → f x ≡ o → Contains (cons_option o (filter_map f xs)) y → (Contains (filter_map f xs) y → (z : X) × Contains xs z × (f z ≡ Some y)) → (z : X) × Contains (x ∷ xs) z × (f z ≡ Some y)
+    by : (o : Option Y) → f x ≡ o → Contains (cons_option o (filter_map f xs)) y → (Contains (filter_map f xs) y → (z : X) × Contains xs z × (f z ≡ Some y)) →
+        (z : X) × Contains (x ∷ xs) z × (f z ≡ Some y)
     by None e k rest = behind (rest k)
     by (Some w) e k rest = elim (Contains-cases w y (filter_map f xs) k) [
       | inl same ↦ (x, Contains-head x xs, e ∙ ap Some same)
@@ -93,8 +78,10 @@ pub record RowsOfKind : Type 1 where
   pub IsBound : Config → List ℕ → Type 0
   pub IsRow : List Config → Row → Type 0
   pub names_it : (owner : ℕ) (config : Config) (called : List ℕ) (row : Row) → row_at owner config called ≡ Some row → (router row ≡ owner) × (name row ≡ called)
-  pub to_row : (configs : List Config) (config : Config) (row : Row) → slice_get configs (router row) ≡ Some config → IsBound config (name row) → row_at (router row) config (name row) ≡ Some row → IsRow configs row
-  pub from_row : (configs : List Config) (row : Row) → IsRow configs row → (config : Config) × (slice_get configs (router row) ≡ Some config) × IsBound config (name row) × (row_at (router row) config (name row) ≡ Some row)
+  pub to_row : (configs : List Config) (config : Config) (row : Row) → slice_get configs (router row) ≡ Some config → IsBound config (name row) →
+      row_at (router row) config (name row) ≡ Some row → IsRow configs row
+  pub from_row : (configs : List Config) (row : Row) → IsRow configs row →
+      (config : Config) × (slice_get configs (router row) ≡ Some config) × IsBound config (name row) × (row_at (router row) config (name row) ≡ Some row)
 
 module _ (K : RowsOfKind) where
   abbrev pub IsRowBefore : K.Row → K.Row → Type 0
@@ -119,10 +106,12 @@ module _ (K : RowsOfKind) where
           let there : (K.router other ≡ router) × (K.name other ≡ found.0) = K.names_it router config found.0 other found.2 in
           inr (
             here.0 ∙ sym there.0,
-            subst (λ (n : List ℕ). IsNameBefore n (K.name other)) (sym here.1) (subst (λ (n : List ℕ). IsNameBefore name n) (sym there.1) (AllPairs-first IsNameBefore name found.0 names ordered found.1)),
+            subst (λ (n : List ℕ). IsNameBefore n (K.name other)) (sym here.1)
+                (subst (λ (n : List ℕ). IsNameBefore name n) (sym there.1) (AllPairs-first IsNameBefore name found.0 names ordered found.1)),
           )
 
-      by : (o : Option K.Row) → K.row_at router config name ≡ o → AllPairs IsRowBefore (filter_map (K.row_at router config) names) → AllPairs IsRowBefore (cons_option o (filter_map (K.row_at router config) names))
+      by : (o : Option K.Row) → K.row_at router config name ≡ o → AllPairs IsRowBefore (filter_map (K.row_at router config) names) →
+          AllPairs IsRowBefore (cons_option o (filter_map (K.row_at router config) names))
       by None e rest = rest
       by (Some row) e rest = AllPairs-cons IsRowBefore row (filter_map (K.row_at router config) names) (All-from (IsRowBefore row) (filter_map (K.row_at router config) names) (first row e)) rest
 
@@ -133,7 +122,8 @@ module _ (K : RowsOfKind) where
   }
 
   -- the rows of one more file
-  pub rows_more : (configs : List Config) (n : ℕ) (config : Config) (rows next : List K.Row) → n < length configs → config ≡ get_or configs n config → AddsRows (K.IsBound config) (K.row_at n config) rows next → AreRowsTo configs n rows →
+  pub rows_more : (configs : List Config) (n : ℕ) (config : Config) (rows next : List K.Row) → n < length configs → config ≡ get_or configs n config →
+      AddsRows (K.IsBound config) (K.row_at n config) rows next → AreRowsTo configs n rows →
       AreRowsTo configs (n + 1) next
   rows_more configs n config rows next within is adds before =
       subst (AreRowsTo configs (n + 1)) (sym adds.added) (record {
@@ -179,7 +169,8 @@ module _ (K : RowsOfKind) where
             let facts = K.from_row configs row is_row in
             let config_is : facts.0 ≡ config = same_Some facts.0 config (sym facts.1 ∙ ap (slice_get configs) same ∙ at_n) in
             let name_bound : K.IsBound config (K.name row) = subst (λ (c : Config). K.IsBound c (K.name row)) config_is facts.2 in
-            let row_is : K.row_at n config (K.name row) ≡ Some row = ap (λ (c : Config). K.row_at n c (K.name row)) (sym config_is) ∙ ap (λ (r : ℕ). K.row_at r facts.0 (K.name row)) (sym same) ∙ facts.3 in
+            let row_is : K.row_at n config (K.name row) ≡ Some row = ap (λ (c : Config). K.row_at n c (K.name row)) (sym config_is)
+            ∙ ap (λ (r : ℕ). K.row_at r facts.0 (K.name row)) (sym same) ∙ facts.3 in
             Contains-append_right rows added row (Contains-result (K.row_at n config) adds.names (K.name row) row ((adds.bound.just (K.name row)).1 name_bound) row_is)
       ]
 

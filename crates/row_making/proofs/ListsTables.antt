@@ -1,13 +1,13 @@
 -- Lists by their names, held by reference, and route lists by the neighbour at which they are bound.
-use Rattle.std.proofs.Common.{◌≡◌, ◌≢◌, ℕ, ◌+◌, ◌<◌, ◌≤◌, Bool, true, false, ◌&&◌, cond, Option, Some, None, List, [], ◌∷◌, ◌++◌, length, get_or, take, map, refl, sym, ◌∙◌, ap, subst, arith, nat_eq, ◌==◌}
+use Rattle.std.proofs.Common.{◌≡◌, ◌≢◌, ℕ, ◌+◌, ◌<◌, Bool, true, false, ◌&&◌, cond, Option, Some, None, List}
+use Rattle.std.proofs.Common.{[], ◌∷◌, ◌++◌, length, get_or, take, map, refl, sym, ◌∙◌, ap, subst, nat_eq, ◌==◌}
 use Rattle.std.specs.Prelude.{Contains, find, option_map, option_and_then, is_some, if◌then◌else◌, bytes_eq}
-use Rattle.std.specs.Option.{option_or, option_to_list}
+use Rattle.std.specs.Option.{option_or}
 use Rattle.std.specs.Map.{lookup, keys_of}
-use Rattle.std.specs.List.{IsDistinct, filter_map, cons_option}
+use Rattle.std.specs.List.{IsDistinct}
 use Rattle.std.proofs.lemmas.Bool.{and_right, cond-true, cond-false, true≢false, false≢true}
 use Rattle.std.proofs.lemmas.Cmp.{nat_eq_equiv}
 use Rattle.std.proofs.lemmas.List.{take_more}
-use Rattle.std.proofs.lemmas.List.Elements.{filter_map-append}
 use Rattle.std.proofs.lemmas.Map.Entries.{place_from_lookup, lookup_from_place}
 use Rattle.std.proofs.lemmas.Option.{none-some, same_Some}
 use Rattle.std.proofs.lemmas.Slice.Eq.{bytes_eq-Decides}
@@ -46,7 +46,8 @@ module _ (packet : Bool) (list : ListText) where
   -- a list of the other kind changes nothing
   pub kept_other : is_of_kind packet list ≡ false → (o : Option ListText) (name : List ℕ) → o ≡ option_or o (list_if packet list name)
   kept_other other o name =
-      sym (ap (λ (p : Option ListText). option_or o p) (cond-false (bytes_eq list.name name && is_of_kind packet list) (Some list) None (and_right (bytes_eq list.name name) (is_of_kind packet list) other)) ∙ or_none o)
+      sym (ap (λ (p : Option ListText). option_or o p)
+      (cond-false (bytes_eq list.name name && is_of_kind packet list) (Some list) None (and_right (bytes_eq list.name name) (is_of_kind packet list) other)) ∙ or_none o)
 
   module _ (old : List ℕ → Option ListText) where
     -- nor does one whose name is there
@@ -123,8 +124,11 @@ module _ (entries : List (ℕ × Bor (List ℕ))) (distinct : IsDistinct nat_eq 
   at_some_key name there =
       let value = from_map (λ (list : Bor (List ℕ)). list.now) (map (λ (e : ℕ × Bor (List ℕ)). e.1) entries) name there in
       let entry = from_map (λ (e : ℕ × Bor (List ℕ)). e.1) entries value.0 value.1 in
-      let place = at_Contains entries entry.0 entry.1 in
-      (entry.0.0, ap (option_map (λ (list : Bor (List ℕ)). list.now)) (lookup_from_place nat_eq_equiv entries place.0 entry.0.0 entry.0.1 distinct place.1) ∙ ap Some (ap (λ (list : Bor (List ℕ)). list.now) entry.2 ∙ value.2))
+      let place = at_Contains entries entry.0 entry.1 in (
+        entry.0.0,
+        ap (option_map (λ (list : Bor (List ℕ)). list.now)) (lookup_from_place nat_eq_equiv entries place.0 entry.0.0 entry.0.1 distinct place.1)
+            ∙ ap Some (ap (λ (list : Bor (List ℕ)). list.now) entry.2 ∙ value.2),
+      )
 
   -- and the value of a key is a value
   pub from_some_key : (name : List ℕ) (peer : ℕ) → option_map (λ (list : Bor (List ℕ)). list.now) (lookup (nat_eq peer) entries) ≡ Some name →
@@ -140,21 +144,3 @@ module _ (entries : List (ℕ × Bor (List ℕ))) (distinct : IsDistinct nat_eq 
           let in_values : Contains (map (λ (e : ℕ × Bor (List ℕ)). e.1) entries) list = Contains-map (λ (e : ℕ × Bor (List ℕ)). e.1) entries (place.1, list) in_entries in
           subst (λ (n : List ℕ). Contains (map (λ (list : Bor (List ℕ)). list.now) (map (λ (e : ℕ × Bor (List ℕ)). e.1) entries)) n) (same_Some list.now name e)
           (Contains-map (λ (list : Bor (List ℕ)). list.now) (map (λ (e : ℕ × Bor (List ℕ)). e.1) entries) list in_values)
-
--- one more entry
-pub entries_more : {E : Type 0} (f : Command → Option E) (items : List (Given Command)) (i : ℕ) (x : Given Command) (before after : List E) → i < length items → x ≡ get_or items i x →
-    before ≡ filter_map (λ (g : Given Command). f g.value) (take i items) → after ≡ before ++ option_to_list (f x.value) →
-    after ≡ filter_map (λ (g : Given Command). f g.value) (take (i + 1) items)
-entries_more {E} f items i x before after within is was now =
-    let entry : Given Command → Option E = λ (g : Given Command). f g.value in
-    now ∙ ap (λ (l : List E). l ++ option_to_list (f x.value)) was ∙ ap (λ (l : List E). filter_map entry (take i items) ++ l) (as_list (f x.value)) ∙
-    sym (filter_map-append entry (take i items) (x ∷ [])) ∙ ap (λ (y : Given Command). filter_map entry (take i items ++ y ∷ [])) is ∙ ap (filter_map entry) (sym (take_more items i x within))
-  where
-    as_list : (o : Option E) → option_to_list o ≡ cons_option o []
-    as_list None = refl
-    as_list (Some e) = refl
-
--- an option holds one item at most
-pub short_list : {E : Type 0} (o : Option E) → length (option_to_list o) ≤ 1
-short_list None = omega arith
-short_list (Some e) = omega arith

@@ -5,6 +5,8 @@ use Rattle.std.specs.Option.{option_or}
 use denote.Ref.{Bor}
 use Rattle.indexmap.specs.IndexMap.{get_by}
 use Rattle.arc_base.specs.declared.prefix.Prefix.{Prefix}
+use Rattle.net_model.specs.declared.rows.Protocol.{Protocol}
+use Rattle.net_model.specs.declared.rows.Protocol.TheVariants.{Ospf, Bgp}
 use Rattle.ios_words.specs.declared.commands.Command.{Command}
 use Rattle.ios_words.specs.declared.commands.Command.TheVariants as commands
 use Rattle.row_making.specs.declared.process_index.PassiveIndex.{PassiveIndex}
@@ -21,6 +23,11 @@ told_prefix other = None
 abbrev pub covered_prefix : Command → Option Prefix
 covered_prefix (commands.Covers prefix area) = Some prefix
 covered_prefix other = None
+
+-- the prefix of a network statement of the protocol
+abbrev pub network_prefix : Protocol → Command → Option Prefix
+network_prefix Ospf command = covered_prefix command
+network_prefix Bgp command = told_prefix command
 
 -- whether the command makes interfaces passive, and which one, or else all
 abbrev pub passive_setting : Command → Option (Bool × Option (List ℕ))

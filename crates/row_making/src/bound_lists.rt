@@ -1,12 +1,12 @@
 //! The names of the lists that a router file binds: packet lists at its interfaces, and route lists
 //! at its neighbours.
-ghost use Rattle.std.specs.Prelude.{◌≡◌, ℕ, OnOk, IfOk, Some, option_map, nat_eq};
-ghost use Rattle.std.specs.Option.{option_or};
 ghost use Rattle.indexmap.specs.IndexMap.{get, IsUnique};
-ghost use Rattle.net_rules.specs.Settings.{value};
-ghost use Rattle.net_rules.specs.Neighbors.{says_filter, filter_of};
 ghost use Rattle.net_rules.specs.Lists.{IsBoundPacketList, IsBoundRouteList};
+ghost use Rattle.net_rules.specs.Neighbors.{says_filter, filter_of};
+ghost use Rattle.net_rules.specs.Settings.{value};
 ghost use Rattle.row_making.specs.ListTables.{Adds, route_binding};
+ghost use Rattle.std.specs.Option.{option_or};
+ghost use Rattle.std.specs.Prelude.{◌≡◌, ℕ, OnOk, IfOk, Some, option_map, nat_eq};
 
 use arc_base::{Memory, Name};
 use indexmap::IndexMap;

@@ -1,10 +1,10 @@
 //! What the lines of a process say of the reference bandwidth and of a neighbour. The last line
 //! about a setting decides.
-ghost use Rattle.std.specs.Prelude.{◌≡◌};
-ghost use Rattle.std.specs.Option.{option_copied};
-ghost use Rattle.net_rules.specs.Settings.{last_said, says_reference, reference_of};
 ghost use Rattle.net_rules.specs.Neighbors.{says_remote, says_down, says_filter, remote_of};
 ghost use Rattle.net_rules.specs.Neighbors.{is_down, filter_of};
+ghost use Rattle.net_rules.specs.Settings.{last_said, says_reference, reference_of};
+ghost use Rattle.std.specs.Option.{option_copied};
+ghost use Rattle.std.specs.Prelude.{◌≡◌};
 
 use arc_base::Name;
 use ios_config::Given;

@@ -1,7 +1,7 @@
 //! The links that are to be down, by their numbers in the document.
-ghost use Rattle.std.specs.Prelude.{◌≡◌, option_copied};
 ghost use Rattle.net_rules.specs.Linking.{RefusesDownLinks, first_above};
 ghost use Rattle.net_rules.specs.Reasons.{TriedAlone};
+ghost use Rattle.std.specs.Prelude.{◌≡◌, option_copied};
 
 use arc_base::Kind;
 use net_doc::{NetFault, Refusal};

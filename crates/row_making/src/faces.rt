@@ -1,16 +1,16 @@
 //! The rows of interfaces.
-ghost use Rattle.std.specs.Prelude.{◌≡◌, ◌≤◌, ◌<◌, ◌^◌, ◌++◌, All, List, IfOk, OnOk, IsTrue, ◌↔◌};
-ghost use Rattle.std.specs.Prelude.{length, MatchBool, Some, None, option_map, unwrap_or};
-ghost use Rattle.std.specs.List.{AllZip};
 ghost use Rattle.net_rules.specs.Forms.{IsWellFormed, IsWellFormedFace};
+ghost use Rattle.net_rules.specs.Lists.{keys_at};
+ghost use Rattle.net_rules.specs.Names.{names_at};
+ghost use Rattle.net_rules.specs.Rows.{IsSubnet, is_host_route, host_address_of, TellsHost};
+ghost use Rattle.net_rules.specs.Rows.{IsFaceRow};
 ghost use Rattle.net_rules.specs.Settings.{value, address_of, is_up, bandwidth_of, cost_at};
 ghost use Rattle.net_rules.specs.Settings.{IsEnabled, is_point_to_point, lines_of};
 ghost use Rattle.net_rules.specs.Sites.{Site, sites_of, sites};
-ghost use Rattle.net_rules.specs.Names.{names_at};
-ghost use Rattle.net_rules.specs.Lists.{keys_at};
 ghost use Rattle.row_making.specs.Indexes.{IsIndex};
-ghost use Rattle.net_rules.specs.Rows.{IsSubnet, is_host_route, host_address_of, TellsHost};
-ghost use Rattle.net_rules.specs.Rows.{IsFaceRow};
+ghost use Rattle.std.specs.List.{AllZip};
+ghost use Rattle.std.specs.Prelude.{◌≡◌, ◌≤◌, ◌<◌, ◌^◌, ◌++◌, All, List, IfOk, OnOk, IsTrue, ◌↔◌};
+ghost use Rattle.std.specs.Prelude.{length, MatchBool, Some, None, option_map, unwrap_or};
 
 use crate::places_of_lists::{ListKey, bound_name, place_of_list};
 use crate::process_index::{ProcessIndex, index_process};

@@ -1,12 +1,12 @@
 //! The links of the document: the interfaces that they join.
+ghost use Rattle.net_rules.specs.Linking.{JoinsNamed, RefusesLinkFace};
+ghost use Rattle.net_rules.specs.Names.{names_at};
+ghost use Rattle.net_rules.specs.Reasons.{Tried};
+ghost use Rattle.net_rules.specs.Rows.{IsLinkRow};
+ghost use Rattle.net_rules.specs.Sites.{a_end, b_end, ends_of, full_names};
+ghost use Rattle.std.specs.List.{AllZip};
 ghost use Rattle.std.specs.Prelude.{◌≡◌, ◌≢◌, ◌⊎◌, ◌≤◌, [], ◌∷◌, ◌++◌, Contains, IfOk, OnOk};
 ghost use Rattle.std.specs.Prelude.{MatchBool, MatchOption, length};
-ghost use Rattle.std.specs.List.{AllZip};
-ghost use Rattle.net_rules.specs.Sites.{a_end, b_end, ends_of, full_names};
-ghost use Rattle.net_rules.specs.Names.{names_at};
-ghost use Rattle.net_rules.specs.Rows.{IsLinkRow};
-ghost use Rattle.net_rules.specs.Reasons.{Tried};
-ghost use Rattle.net_rules.specs.Linking.{JoinsNamed, RefusesLinkFace};
 
 use arc_base::limits::LINK_LIMIT;
 use arc_base::{Face, Kind, List, Memory};

@@ -1,20 +1,20 @@
 //! The lists of router files: their names, and the rows of those that are bound and defined.
-ghost use Rattle.std.specs.Prelude.{◌≡◌, ◌≤◌, ◌<◌, ◌^◌, ◌-◌, ◌++◌, ℕ, List, Any, IfOk, OnOk};
-ghost use Rattle.std.specs.Prelude.{option_map, length, AllPairs};
-ghost use Rattle.std.specs.Option.{option_copied, option_or, option_to_list};
+ghost use Rattle.arc_base.specs.NameForms.{IsNameBefore, texts_at};
 ghost use Rattle.net_rules.specs.Lists.{AreListNames, ArePacketLists, AreRouteLists};
 ghost use Rattle.net_rules.specs.Lists.{is_packet_kind, is_extended_kind, entry_of, packet_entry};
 ghost use Rattle.net_rules.specs.Lists.{route_entry, packet_entries, route_entries, is_of_kind};
 ghost use Rattle.net_rules.specs.Lists.{list_named, if_defined, packet_row, route_row};
 ghost use Rattle.net_rules.specs.Lists.{IsBoundPacketList, IsBoundRouteList, packet_row_at};
 ghost use Rattle.net_rules.specs.Lists.{route_row_at};
-ghost use Rattle.arc_base.specs.NameForms.{IsNameBefore, texts_at};
 ghost use Rattle.row_making.specs.ListTables.{Adds, list_at, list_if, AddsRows};
+ghost use Rattle.std.specs.List.{filter_map};
+ghost use Rattle.std.specs.Option.{option_copied, option_or};
+ghost use Rattle.std.specs.Prelude.{◌≡◌, ◌≤◌, ℕ, List, Any, IfOk, OnOk, length, AllPairs};
 
 use crate::bound_lists::{Names, add_bound_packet, add_bound_route};
 use arc_base::limits::ROUTER_LIMIT;
 use arc_base::{List, Memory, Name, Router};
-use ios_config::{Config, ListKind, ListText};
+use ios_config::{Config, Given, ListKind, ListText};
 use ios_words::{Command, PacketText};
 use net_model::{PacketEntry, PacketList, RouteEntry, RouteList, Service};
 use std::alloc::Global;
@@ -150,25 +150,23 @@ fn packet_entry(command: &Command) -> Option<PacketEntry>
     }
 }
 
-/// Adds the entry that the command is, if it is one.
-fn add_packet_entry(entries: &mut List<PacketEntry>, command: &Command) -> Result<(), Memory>
-    requires { length entries.old < 2 ^ 32 - 1 }
-    ensures { OnOk result (entries.new ≡ entries.old ++ option_to_list (packet_entry command.now)) }
+/// The entries that the lines give.
+fn packet_entries_of(alloc: Global, lines: &[Given<Command>]) -> Result<Vec<PacketEntry>, Memory>
+    ensures { IfOk result (λ entries.
+        entries.items ≡ filter_map (λ g. packet_entry g.value) lines.now) }
 {
-    match packet_entry(command) {
-        Some(entry) => entries.push(entry),
-        None => Ok(()),
-    }
+    Ok(
+        lines
+            .iter()
+            .filter_map(|g| packet_entry(&g.value))
+            .collect(alloc)?,
+    )
 }
 
 fn packet_entries(alloc: Global, list: &ListText) -> Result<List<PacketEntry>, Memory>
     ensures { IfOk result (λ entries. entries ≡ packet_entries list.now) }
 {
-    let mut entries = List::make(alloc);
-    for given in list.entries.slice() {
-        add_packet_entry(&mut entries, &given.value)?;
-    }
-    Ok(entries)
+    List::of(packet_entries_of(alloc, list.entries.slice())?)
 }
 
 fn route_entry(command: &Command) -> Option<RouteEntry>
@@ -185,25 +183,23 @@ fn route_entry(command: &Command) -> Option<RouteEntry>
     }
 }
 
-/// Adds the entry that the command is, if it is one.
-fn add_route_entry(entries: &mut List<RouteEntry>, command: &Command) -> Result<(), Memory>
-    requires { length entries.old < 2 ^ 32 - 1 }
-    ensures { OnOk result (entries.new ≡ entries.old ++ option_to_list (route_entry command.now)) }
+/// The entries that the lines give.
+fn route_entries_of(alloc: Global, lines: &[Given<Command>]) -> Result<Vec<RouteEntry>, Memory>
+    ensures { IfOk result (λ entries.
+        entries.items ≡ filter_map (λ g. route_entry g.value) lines.now) }
 {
-    match route_entry(command) {
-        Some(entry) => entries.push(entry),
-        None => Ok(()),
-    }
+    Ok(
+        lines
+            .iter()
+            .filter_map(|g| route_entry(&g.value))
+            .collect(alloc)?,
+    )
 }
 
 fn route_entries(alloc: Global, list: &ListText) -> Result<List<RouteEntry>, Memory>
     ensures { IfOk result (λ entries. entries ≡ route_entries list.now) }
 {
-    let mut entries = List::make(alloc);
-    for given in list.entries.slice() {
-        add_route_entry(&mut entries, &given.value)?;
-    }
-    Ok(entries)
+    List::of(route_entries_of(alloc, list.entries.slice())?)
 }
 
 fn packet_row(
@@ -232,26 +228,6 @@ fn route_row(alloc: Global, router: u32, name: &[u8], list: &ListText) -> Result
     })
 }
 
-/// Adds the row of the list that was found, if it is defined.
-fn add_packet_row(
-    alloc: Global,
-    rows: &mut Vec<PacketList>,
-    router: u32,
-    name: &[u8],
-    found: Option<&ListText>,
-) -> Result<(), Memory>
-    ensures { OnOk result (rows.new.items ≡ rows.old.items ++ option_to_list
-        (option_map (packet_row router name.now) (if_defined (option_copied found.entry)))) }
-{
-    match defined(found) {
-        Some(list) => {
-            rows.push(packet_row(alloc, router, name, list)?)?;
-            Ok(())
-        }
-        None => Ok(()),
-    }
-}
-
 /// Adds the rows of the packet lists that the file binds and defines. Where it binds none no list
 /// is looked at.
 fn add_packet_lists(
@@ -271,29 +247,11 @@ fn add_packet_lists(
     let lists = by_name(alloc, config, true)?;
     for name in &bound {
         let found = lists.get(name).copied();
-        add_packet_row(alloc, rows, router, name, found)?;
+        if let Some(list) = defined(found) {
+            rows.push(packet_row(alloc, router, name, list)?)?;
+        }
     }
     Ok(())
-}
-
-/// Adds the row of the list that was found, if it is defined.
-fn add_route_row(
-    alloc: Global,
-    rows: &mut Vec<RouteList>,
-    router: u32,
-    name: &[u8],
-    found: Option<&ListText>,
-) -> Result<(), Memory>
-    ensures { OnOk result (rows.new.items ≡ rows.old.items ++ option_to_list
-        (option_map (route_row router name.now) (if_defined (option_copied found.entry)))) }
-{
-    match defined(found) {
-        Some(list) => {
-            rows.push(route_row(alloc, router, name, list)?)?;
-            Ok(())
-        }
-        None => Ok(()),
-    }
 }
 
 /// Adds the rows of the route lists that the file binds and defines. Where it binds none no list is
@@ -315,7 +273,9 @@ fn add_route_lists(
     let lists = by_name(alloc, config, false)?;
     for name in &bound {
         let found = lists.get(name).copied();
-        add_route_row(alloc, rows, router, name, found)?;
+        if let Some(list) = defined(found) {
+            rows.push(route_row(alloc, router, name, list)?)?;
+        }
     }
     Ok(())
 }

@@ -1,8 +1,8 @@
 //! Where the lists of a router are among the rows of the network.
-ghost use Rattle.std.specs.Prelude.{◌≡◌, ◌<◌, ◌^◌, map, option_map, length, IfOk, Some};
-ghost use Rattle.std.specs.Option.{option_copied};
 ghost use Rattle.arc_base.specs.Lists.{AreDistinct};
 ghost use Rattle.net_rules.specs.Lists.{IsPlaceAmong, keys_at, packet_list_key, route_list_key};
+ghost use Rattle.std.specs.Option.{option_copied};
+ghost use Rattle.std.specs.Prelude.{◌≡◌, ◌<◌, ◌^◌, map, option_map, length, IfOk, Some};
 
 use arc_base::{List, ListId, Memory, Name};
 use indexmap::IndexSet;

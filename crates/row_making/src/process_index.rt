@@ -1,13 +1,13 @@
 //! What the process of a file says, gathered once for all interfaces of the file: no look-up goes
 //! through its lines again.
-ghost use Rattle.std.specs.Prelude.{◌≡◌, ◌↔◌, ◌⊎◌, ℕ, List, Some, Any, IfOk, IsTrue, option_map};
-ghost use Rattle.std.specs.Option.{option_copied, option_or};
 ghost use Rattle.arc_base.specs.declared.prefix.Prefix.{Prefix};
+ghost use Rattle.std.specs.Option.{option_copied, option_or};
+ghost use Rattle.std.specs.Prelude.{◌≡◌, ◌↔◌, ◌⊎◌, ℕ, List, Some, Any, IfOk, IsTrue, option_map};
 ghost use Rattle.ios_words.specs.declared.commands.Command.TheVariants as commands;
-ghost use Rattle.net_rules.specs.Settings.{last_said, says_passive};
 ghost use Rattle.net_rules.specs.Prefixes.{HasPrefix};
-ghost use Rattle.row_making.specs.Indexes.{told_prefix, covered_prefix, passive_setting, by_face};
-ghost use Rattle.row_making.specs.Indexes.{said_of, IsIndex};
+ghost use Rattle.net_rules.specs.Settings.{last_said, says_passive};
+ghost use Rattle.row_making.specs.Indexes.{told_prefix, covered_prefix, network_prefix, by_face};
+ghost use Rattle.row_making.specs.Indexes.{passive_setting, said_of, IsIndex};
 
 use crate::commands::reference;
 use arc_base::{Memory, Name, Prefix};
@@ -60,6 +60,15 @@ fn covered_prefix(command: &Command) -> Option<&Prefix>
     }
 }
 
+fn network_prefix(protocol: Protocol, command: &Command) -> Option<&Prefix>
+    ensures { option_copied result ≡ network_prefix protocol command.now }
+{
+    match protocol {
+        Protocol::Ospf => covered_prefix(command),
+        Protocol::Bgp => told_prefix(command),
+    }
+}
+
 /// Adds the prefix, if there is one.
 fn add_found(prefixes: &mut Prefixes, found: Option<&Prefix>) -> Result<(), Memory>
     ensures { IfOk result (λ done. (p : Prefix) → HasPrefix prefixes.new.keys p ↔
@@ -74,26 +83,16 @@ fn add_found(prefixes: &mut Prefixes, found: Option<&Prefix>) -> Result<(), Memo
     }
 }
 
-fn told(alloc: Global, lines: &[Given<Command>]) -> Result<Prefixes, Memory>
-    ensures { IfOk result (λ told. (p : Prefix) →
-        HasPrefix told.keys p ↔ Any (λ g. g.value ≡ commands.Tells p) lines.now) }
+/// The prefixes of the network statements of the protocol.
+fn prefixes(alloc: Global, protocol: Protocol, lines: &[Given<Command>]) -> Result<Prefixes, Memory>
+    ensures { IfOk result (λ prefixes. (p : Prefix) → HasPrefix prefixes.keys p ↔
+        Any (λ g. network_prefix protocol g.value ≡ Some p) lines.now) }
 {
-    let mut told = IndexSet::new(alloc);
+    let mut prefixes = IndexSet::new(alloc);
     for line in lines {
-        add_found(&mut told, told_prefix(&line.value))?;
+        add_found(&mut prefixes, network_prefix(protocol, &line.value))?;
     }
-    Ok(told)
-}
-
-fn covered(alloc: Global, lines: &[Given<Command>]) -> Result<Prefixes, Memory>
-    ensures { IfOk result (λ covered. (p : Prefix) →
-        HasPrefix covered.keys p ↔ Any (λ g. covered_prefix g.value ≡ Some p) lines.now) }
-{
-    let mut covered = IndexSet::new(alloc);
-    for line in lines {
-        add_found(&mut covered, covered_prefix(&line.value))?;
-    }
-    Ok(covered)
+    Ok(prefixes)
 }
 
 /// Whether the command makes interfaces passive, and which one, or else all.
@@ -165,8 +164,8 @@ pub fn index_process(alloc: Global, config: &Config) -> Result<ProcessIndex<'_>,
     Ok(ProcessIndex {
         config,
         reference: reference(lines),
-        told: told(alloc, lines)?,
-        covered: covered(alloc, lines)?,
+        told: prefixes(alloc, Protocol::Bgp, lines)?,
+        covered: prefixes(alloc, Protocol::Ospf, lines)?,
         passive: passive(alloc, lines)?,
     })
 }

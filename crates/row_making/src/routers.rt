@@ -1,7 +1,7 @@
 //! The rows of routers.
-ghost use Rattle.std.specs.Prelude.{◌≡◌, ◌≤◌, List, IfOk, length, Some, None};
-ghost use Rattle.std.specs.List.{AllZip};
 ghost use Rattle.net_rules.specs.Rows.{IsRouterRow, asn_of};
+ghost use Rattle.std.specs.List.{AllZip};
+ghost use Rattle.std.specs.Prelude.{◌≡◌, ◌≤◌, List, IfOk, length, Some, None};
 
 use crate::lists::list_names;
 use arc_base::limits::ROUTER_LIMIT;

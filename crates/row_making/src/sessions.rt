@@ -1,16 +1,16 @@
 //! The BGP sessions at the ends of links.
-ghost use Rattle.std.specs.Prelude.{◌≡◌, ◌≤◌, ◌<◌, ◌^◌, ◌↔◌, Some, None, IfOk, OnOk, IsTrue};
-ghost use Rattle.std.specs.Prelude.{IsSomeAnd, MatchOption, length, map, slice_get};
 ghost use Rattle.net_model.specs.declared.policies.Document.{Document};
 ghost use Rattle.net_model.specs.declared.rows.SessionRow.{SessionRow};
+ghost use Rattle.std.specs.Prelude.{◌≡◌, ◌≤◌, ◌<◌, ◌^◌, ◌↔◌, Some, None, IfOk, OnOk, IsTrue};
+ghost use Rattle.std.specs.Prelude.{IsSomeAnd, MatchOption, length, map, slice_get};
 ghost use Rattle.net_model.specs.declared.rows.Protocol.TheVariants as protocols;
-ghost use Rattle.net_rules.specs.Settings.{lines_of};
-ghost use Rattle.net_rules.specs.Neighbors.{remote_of};
 ghost use Rattle.arc_base.specs.Lists.{AreDistinct};
-ghost use Rattle.net_rules.specs.Lists.{keys_at, route_list_key};
-ghost use Rattle.net_rules.specs.Reasons.{IsClear};
 ghost use Rattle.net_rules.specs.Linking.{RefusesLinkFace};
+ghost use Rattle.net_rules.specs.Lists.{keys_at, route_list_key};
+ghost use Rattle.net_rules.specs.Neighbors.{remote_of};
+ghost use Rattle.net_rules.specs.Reasons.{IsClear};
 ghost use Rattle.net_rules.specs.Rows.{AreBaseRows, IsConfigured, AreSessions};
+ghost use Rattle.net_rules.specs.Settings.{lines_of};
 ghost use Rattle.row_making.specs.Sessions.{IsSessionOver, AddsOne, AddsSessions};
 
 use crate::commands::{filter_of, is_down, remote_of};

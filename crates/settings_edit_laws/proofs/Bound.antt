@@ -35,7 +35,8 @@ module _ {L : Type 0} (key : L → ℕ × List ℕ) (before now : List L) (edite
           key_at now id.0 (edited was.0 list) (router, name) h (same_key was.0 list ∙ ap key (sym same) ∙ k.2)
 
   -- what stays bound stands where it stands now
-  pub stays_placed : (router : ℕ) (bound : Option (List ℕ)) (w n : Option ListId) → ((name : List ℕ) → bound ≡ Some name → Contains (map key now) (router, name) → Contains (map key before) (router, name)) →
+  pub stays_placed : (router : ℕ) (bound : Option (List ℕ)) (w n : Option ListId) →
+      ((name : List ℕ) → bound ≡ Some name → Contains (map key now) (router, name) → Contains (map key before) (router, name)) →
       StaysBound (Moves before now edited) w n → IsPlaceAmong (map key before) router bound w → IsPlaceAmong (map key now) router bound n
   stays_placed router None None n old h p = subst (λ (o : Option ListId). IsPlaceAmong (map key now) router None o) (sym h) tt
   stays_placed router (Some name) None n old h p = subst (λ (o : Option ListId). IsPlaceAmong (map key now) router (Some name) o) (sym h) (λ there. p (old name refl there))

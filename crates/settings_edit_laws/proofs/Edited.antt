@@ -1,8 +1,8 @@
 -- Files with a network, and the same files after edits of it: what is known of their routers and interfaces.
-use Rattle.std.proofs.Common.{◌≡◌, ℕ, zero, suc, ◌+◌, false, Option, Some, List, [], ◌∷◌, map, sym, ◌∙◌, ap, subst, arith}
+use Rattle.std.proofs.Common.{◌≡◌, ℕ, zero, suc, ◌+◌, false, Option, Some, List, [], ◌∷◌, map, refl, sym, ap, subst, arith}
 use Rattle.std.specs.Prelude.{Contains, IsSome, slice_get}
 use Rattle.std.specs.Option.{option_map_or}
-use Rattle.std.specs.List.{AllZip, enumerate_from, filter_map}
+use Rattle.std.specs.List.{AllZip, enumerate_from}
 use Rattle.std.proofs.lemmas.Bool.{false≢true}
 use Rattle.std.proofs.lemmas.Option.{none-some, same_Some}
 use Rattle.arc_base.specs.declared.place.Face.{Face}
@@ -28,15 +28,15 @@ use Rattle.edit_list.specs.Determined.{IsCountable}
 use Rattle.edit_list.specs.declared.edit_kinds.Edit.{Edit}
 use Rattle.edit_list.specs.declared.edit_kinds.Edit.TheVariants as edits
 use Rattle.edit_list.specs.declared.list_kinds.NewList.{NewList}
-use Rattle.edit_list.specs.Changes.{new_packet_change, new_classes, new_route_change, new_prefixes}
+use Rattle.edit_list.specs.Changes.{new_classes, new_prefixes}
 use Rattle.edit_list.specs.NewLists.{names_of, IsNewList}
-use Rattle.arc_base.specs.Numbered.{is_empty, if_number}
-use Rattle.edit_list.proofs.NewListFacts.{picked_from}
+use Rattle.arc_base.specs.Numbered.{is_empty}
+use Rattle.network_edit_laws.proofs.Changed.{packet_new_in, route_new_in}
 use Rattle.edit_list.proofs.RowFacts.{row_was, row_now}
 use Rattle.arc_base.specs.declared.prefix.Prefix.{Prefix}
 use Rattle.settings_edit_laws.specs.Premises.{AreFitting}
 use Rattle.settings_edit_laws.specs.SettingsAfter.{face_with, AreSettingsAfter, AreAllSettingsAfter}
-use Rattle.settings_edit_laws.proofs.NewNames.{name_is_new, numbered}
+use Rattle.settings_edit_laws.proofs.NewNames.{name_is_new}
 use Rattle.settings_edit_laws.proofs.Pairs.{maps_agree}
 use Rattle.arc_base.proofs.Zips.{AllZip-right, AllZip-left}
 use Rattle.settings_edit_laws.proofs.Sites.{IsSiteAfter, site_after}
@@ -76,51 +76,21 @@ filled_has [] e = absurd (false≢true (sym e))
 filled_has (x ∷ xs) e = (x, Contains-head x xs)
 
 -- a new list has an edit that makes it
-pub packet_edit_there : (chosen : List Edit) (place : ℕ) → is_empty (new_classes chosen place) ≡ false → (face : Face) × (class : Class) × Contains chosen (edits.PacketNew face class) × (face.0 ≡ place)
+pub packet_edit_there : (chosen : List Edit) (place : ℕ) → is_empty (new_classes chosen place) ≡ false →
+    (face : Face) × (class : Class) × Contains chosen (edits.PacketNew face class) × (face.0 ≡ place)
 packet_edit_there chosen place filled =
     let c = filled_has (new_classes chosen place) filled in
-    let p = picked_from (if_number place) (filter_map new_packet_change chosen) c.0 c.1 in
-    let e = picked_from new_packet_change chosen p.0 p.1 in
-    let n = numbered place p.0 c.0 p.2 in
-    by e.0 p.0 e.1 e.2 n.0
-  where
-    by : (e : Edit) (pair : ℕ × Class) → Contains chosen e → new_packet_change e ≡ Some pair → pair.0 ≡ place → (face : Face) × (class : Class) × Contains chosen (edits.PacketNew face class) × (face.0 ≡ place)
-    by (edits.Session face) pair there is at = absurd (none-some pair is)
-    by (edits.RouteList list prefix) pair there is at = absurd (none-some pair is)
-    by (edits.RouteNew face prefix) pair there is at = absurd (none-some pair is)
-    by (edits.PacketList list class) pair there is at = absurd (none-some pair is)
-    by (edits.PacketNew face class) pair there is at = (face, class, there, ap (λ (q : ℕ × Class). q.0) (same_Some (face.0, class) pair is) ∙ at)
+    (record { 0 = place }, c.0, packet_new_in chosen (record { 0 = place }) c.0 c.1, refl)
 
 -- a class in a new list has an edit that puts it there
 pub packet_edit_of : (chosen : List Edit) (place : ℕ) (class : Class) → Contains (new_classes chosen place) class → (face : Face) × Contains chosen (edits.PacketNew face class)
-packet_edit_of chosen place class there =
-    let p = picked_from (if_number place) (filter_map new_packet_change chosen) class there in
-    let e = picked_from new_packet_change chosen p.0 p.1 in
-    by e.0 p.0 e.1 e.2 (numbered place p.0 class p.2).1
-  where
-    by : (e : Edit) (pair : ℕ × Class) → Contains chosen e → new_packet_change e ≡ Some pair → pair.1 ≡ class → (face : Face) × Contains chosen (edits.PacketNew face class)
-    by (edits.Session face) pair in_c is at = absurd (none-some pair is)
-    by (edits.RouteList list prefix) pair in_c is at = absurd (none-some pair is)
-    by (edits.RouteNew face prefix) pair in_c is at = absurd (none-some pair is)
-    by (edits.PacketList list c) pair in_c is at = absurd (none-some pair is)
-    by (edits.PacketNew face c) pair in_c is at =
-        let same : c ≡ class = ap (λ (q : ℕ × Class). q.1) (same_Some (face.0, c) pair is) ∙ at in
-        (face, subst (λ (d : Class). Contains chosen (edits.PacketNew face d)) same in_c)
+packet_edit_of chosen place class there = (record { 0 = place }, packet_new_in chosen (record { 0 = place }) class there)
 
-pub route_edit_there : (chosen : List Edit) (place : ℕ) → is_empty (new_prefixes chosen place) ≡ false → (face : Face) × (prefix : Prefix) × Contains chosen (edits.RouteNew face prefix) × (face.0 ≡ place)
+pub route_edit_there : (chosen : List Edit) (place : ℕ) → is_empty (new_prefixes chosen place) ≡ false →
+    (face : Face) × (prefix : Prefix) × Contains chosen (edits.RouteNew face prefix) × (face.0 ≡ place)
 route_edit_there chosen place filled =
-    let c = filled_has (new_prefixes chosen place) filled in
-    let p = picked_from (if_number place) (filter_map new_route_change chosen) c.0 c.1 in
-    let e = picked_from new_route_change chosen p.0 p.1 in
-    let n = numbered place p.0 c.0 p.2 in
-    by e.0 p.0 e.1 e.2 n.0
-  where
-    by : (e : Edit) (pair : ℕ × Prefix) → Contains chosen e → new_route_change e ≡ Some pair → pair.0 ≡ place → (face : Face) × (prefix : Prefix) × Contains chosen (edits.RouteNew face prefix) × (face.0 ≡ place)
-    by (edits.Session face) pair there is at = absurd (none-some pair is)
-    by (edits.RouteList list prefix) pair there is at = absurd (none-some pair is)
-    by (edits.RouteNew face prefix) pair there is at = (face, prefix, there, ap (λ (q : ℕ × Prefix). q.0) (same_Some (face.0, prefix) pair is) ∙ at)
-    by (edits.PacketList list class) pair there is at = absurd (none-some pair is)
-    by (edits.PacketNew face class) pair there is at = absurd (none-some pair is)
+    let p = filled_has (new_prefixes chosen place) filled in
+    (record { 0 = place }, p.0, route_new_in chosen (record { 0 = place }) p.0 p.1, refl)
 
 module _ (doc : Document) (net : Network) (old new : List Config) (chosen : List Edit) (g : AreEdited doc net old new chosen) where
   pub file_now : (router : ℕ) (c : Config) → slice_get old router ≡ Some c → FileNow net chosen new router c
@@ -151,11 +121,14 @@ module _ (doc : Document) (net : Network) (old new : List Config) (chosen : List
   not_new router c name at listed list made = name_is_new net g.valid g.small chosen router list name made (in_names router c name at listed)
 
   -- an interface of a file stands among all of them
-  pub own_site : (router : ℕ) (c : Config) (f : FaceText) → slice_get old router ≡ Some c → Contains c.faces f → (k : ℕ) × (slice_get (sites old) k ≡ Some (record { router = router; config = c; face = f }))
+  pub own_site : (router : ℕ) (c : Config) (f : FaceText) → slice_get old router ≡ Some c → Contains c.faces f →
+      (k : ℕ) × (slice_get (sites old) k ≡ Some (record { router = router; config = c; face = f }))
   own_site router c f at there =
       let placed : Contains (enumerate_from 0 old) (router, c) = subst (λ (n : ℕ). Contains (enumerate_from 0 old) (n, c)) (omega arith) (enumerated 0 router old c at) in
-      let site : Contains (sites_of (router, c)) (record { router = router; config = c; face = f }) = Contains-map (λ (h : FaceText). record { router = router; config = c; face = h }) c.faces f there in
-      place_of_item (sites old) (record { router = router; config = c; face = f }) (Contains-piece sites_of (enumerate_from 0 old) (router, c) (record { router = router; config = c; face = f }) placed site)
+      let site : Contains (sites_of (router, c)) (record { router = router; config = c; face = f }) =
+      Contains-map (λ (h : FaceText). record { router = router; config = c; face = h }) c.faces f there in
+      place_of_item (sites old) (record { router = router; config = c; face = f })
+      (Contains-piece sites_of (enumerate_from 0 old) (router, c) (record { router = router; config = c; face = f }) placed site)
 
   -- a session is configured in the file of its interface
   abbrev pub IsConfiguredAt : SessionRow → Site → Type 0
@@ -175,13 +148,15 @@ module _ (doc : Document) (net : Network) (old new : List Config) (chosen : List
     side_by_side : AllZip (λ (f h : FaceText). bare_face h ≡ face_with net chosen router (bare_face f)) c.faces d.faces
     side_by_side = maps_agree bare_face (face_with net chosen router) bare_face c.faces d.faces after.faces
 
-    pub face_text_now : (f : FaceText) → Contains c.faces f → (h : FaceText) × Contains d.faces h × IsSiteAfter net chosen (record { router = router; config = c; face = f }) (record { router = router; config = d; face = h })
+    pub face_text_now : (f : FaceText) → Contains c.faces f →
+        (h : FaceText) × Contains d.faces h × IsSiteAfter net chosen (record { router = router; config = c; face = f }) (record { router = router; config = d; face = h })
     face_text_now f there =
         let p = place_of_item c.faces f there in
         let r = AllZip-right (λ (f h : FaceText). bare_face h ≡ face_with net chosen router (bare_face f)) c.faces d.faces side_by_side p.0 f p.1 in
         (r.0, item_at_place d.faces p.0 r.0 r.1, site_after net chosen router c d after f r.0 r.2)
 
-    pub face_text_was : (h : FaceText) → Contains d.faces h → (f : FaceText) × Contains c.faces f × IsSiteAfter net chosen (record { router = router; config = c; face = f }) (record { router = router; config = d; face = h })
+    pub face_text_was : (h : FaceText) → Contains d.faces h →
+        (f : FaceText) × Contains c.faces f × IsSiteAfter net chosen (record { router = router; config = c; face = f }) (record { router = router; config = d; face = h })
     face_text_was h there =
         let p = place_of_item d.faces h there in
         let r = AllZip-left (λ (f h : FaceText). bare_face h ≡ face_with net chosen router (bare_face f)) c.faces d.faces side_by_side p.0 h p.1 in

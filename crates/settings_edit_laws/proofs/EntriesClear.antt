@@ -39,15 +39,36 @@ use Rattle.settings_edit_laws.proofs.SessionFacts.{find_in}
 module _ (net : Network) (chosen : List Edit) (router : ℕ) where
   few_front : (list : ListText) (kind : ListKind) → length (front_lines net chosen router list kind) ≤ length chosen
   few_front list kinds.Prefix =
-      omega (arith, length-map (filter_map (prefix_for net router list.name) chosen) (λ (p : Prefix). route_line list.name (opposite_route_entry (route_entries list) p)), few_picked (prefix_for net router list.name) chosen)
+      omega (
+        arith,
+        length-map (filter_map (prefix_for net router list.name) chosen)
+            (λ (p : Prefix). route_line list.name (opposite_route_entry (route_entries list) p)),
+        few_picked (prefix_for net router list.name) chosen,
+      )
   few_front list kinds.Extended =
-      omega (arith, length-map (filter_map (class_for net router list.name) chosen) (λ (c : Class). packet_command list.form list.name None (opposite_packet_entry (packet_entries list) c)), few_picked (class_for net router list.name) chosen)
+      omega (
+        arith,
+        length-map (filter_map (class_for net router list.name) chosen)
+            (λ (c : Class). packet_command list.form list.name None (opposite_packet_entry (packet_entries list) c)),
+        few_picked (class_for net router list.name) chosen,
+      )
   few_front list kinds.Standard =
-      omega (arith, length-map (filter_map (class_for net router list.name) chosen) (λ (c : Class). packet_command list.form list.name None (opposite_packet_entry (packet_entries list) c)), few_picked (class_for net router list.name) chosen)
+      omega (
+        arith,
+        length-map (filter_map (class_for net router list.name) chosen)
+            (λ (c : Class). packet_command list.form list.name None (opposite_packet_entry (packet_entries list) c)),
+        few_picked (class_for net router list.name) chosen,
+      )
 
   few_with : (list : ListText) → length (list_with net chosen router list).entries ≤ length chosen + length list.entries
   few_with list =
-      omega (arith, length-append (map said (front_lines net chosen router list list.kind)) list.entries, length-map (front_lines net chosen router list list.kind) (λ (c : Command). said c), few_front list list.kind)
+      omega (
+        arith,
+        length-append (map said (front_lines net chosen router list list.kind)) list.entries,
+        length-map
+            (front_lines net chosen router list list.kind) (λ (c : Command). said c),
+        few_front list list.kind,
+      )
 
   few_new_prefixes : (place : ℕ) → length (new_prefixes chosen place) ≤ length chosen
   few_new_prefixes place = omega (arith, few_picked (if_number place) (filter_map new_route_change chosen), few_picked new_route_change chosen)
@@ -75,14 +96,16 @@ module _ (net : Network) (chosen : List Edit) (router : ℕ) where
         few_new_classes face.0,
       )
 
-  module _ (c d : Config) (after : AreSettingsAfter net chosen router c d) (room : (list : ListText) → Contains c.lists list → length list.entries + length chosen ≤ 16384) (new_room : length chosen < 16384) where
+  module _ (c d : Config) (after : AreSettingsAfter net chosen router c d) (room : (list : ListText) → Contains c.lists list → length list.entries + length chosen ≤ 16384)
+      (new_room : length chosen < 16384) where
     old_room : (list : ListText) → Contains (after.front ++ after.back) list → length list.entries + length chosen ≤ 16384
     old_room list there =
         let r = from_map plain_list c.lists list (subst (λ (l : List ListText). Contains l list) (sym after.old_lists) there) in
         let count : length list.entries ≡ length r.0.entries = ap (λ (l : ListText). length l.entries) (sym r.2) ∙ length-map r.0.entries plain_entry in
         omega (arith, count, room r.0 r.1)
 
-    edited_room : (ls : List ListText) → ((list : ListText) → Contains ls list → Contains (after.front ++ after.back) list) → (list : ListText) → Contains (map (list_with net chosen router) ls) list → length list.entries ≤ 16384
+    edited_room : (ls : List ListText) → ((list : ListText) → Contains ls list → Contains (after.front ++ after.back) list) → (list : ListText) →
+        Contains (map (list_with net chosen router) ls) list → length list.entries ≤ 16384
     edited_room ls within list there =
         let r = from_map (list_with net chosen router) ls list there in
         let count : length list.entries ≡ length (list_with net chosen router r.0).entries = ap (λ (l : ListText). length l.entries) (sym r.2) in
@@ -95,22 +118,26 @@ module _ (net : Network) (chosen : List Edit) (router : ℕ) where
         omega (arith, count, few_new r.0.1 r.0.0, new_room)
 
     pub list_room : (list : ListText) → Contains d.lists list → length list.entries ≤ 16384
-    list_room list there = plain_room (plain_list list) (subst (λ (l : List ListText). Contains l (plain_list list)) after.new_lists (Contains-map plain_list d.lists list there)) (length-map list.entries plain_entry)
+    list_room list there = plain_room (plain_list list) (subst (λ (l : List ListText). Contains l (plain_list list)) after.new_lists (Contains-map plain_list d.lists list there))
+        (length-map list.entries plain_entry)
       where
-        plain_room : (plain : ListText) → Contains (map (list_with net chosen router) after.front ++ (new_list_texts net chosen router ++ map (list_with net chosen router) after.back)) plain → length plain.entries ≡ length list.entries → length list.entries ≤ 16384
-        plain_room plain in_all count = elim (Contains-append_cases (map (list_with net chosen router) after.front) (new_list_texts net chosen router ++ map (list_with net chosen router) after.back) plain in_all) [
-          | inl front ↦ omega (arith, count, edited_room after.front (λ l h. Contains-append_left after.front after.back l h) plain front)
-          | inr later ↦ elim (Contains-append_cases (new_list_texts net chosen router) (map (list_with net chosen router) after.back) plain later) [
-            | inl made ↦ omega (arith, count, new_list_room plain made)
-            | inr back ↦ omega (arith, count, edited_room after.back (λ l h. Contains-append_right after.front after.back l h) plain back)
-          ]
-        ]
+        plain_room : (plain : ListText) → Contains (map (list_with net chosen router) after.front ++ (new_list_texts net chosen router ++ map (list_with net chosen router) after.back))
+            plain → length plain.entries ≡ length list.entries → length list.entries ≤ 16384
+        plain_room plain in_all count =
+            elim (Contains-append_cases (map (list_with net chosen router) after.front) (new_list_texts net chosen router ++ map (list_with net chosen router) after.back) plain in_all) [
+              | inl front ↦ omega (arith, count, edited_room after.front (λ l h. Contains-append_left after.front after.back l h) plain front)
+              | inr later ↦ elim (Contains-append_cases (new_list_texts net chosen router) (map (list_with net chosen router) after.back) plain later) [
+                | inl made ↦ omega (arith, count, new_list_room plain made)
+                | inr back ↦ omega (arith, count, edited_room after.back (λ l h. Contains-append_right after.front after.back l h) plain back)
+              ]
+            ]
 
 module _ (doc : Document) (net : Network) (old new : List Config) (chosen : List Edit) (g : AreEdited doc net old new chosen) (room : HasRoom chosen old) where
   pub clear_entries : IsClear (RefusesEntries 16384 new)
   clear_entries r bad =
       let was = file_was doc net old new chosen g bad.place bad.config bad.at_place in
       let found = find_in (λ (list : ListText). nat_lt 16384 (length list.entries)) bad.config.lists bad.list bad.first in
-      let few : length bad.list.entries ≤ 16384 = list_room net chosen bad.place was.config bad.config was.after (room.old was.config (item_at_place old bad.place was.config was.at)) room.new bad.list found.0 in
+      let few : length bad.list.entries ≤ 16384 = list_room net chosen bad.place was.config bad.config was.after
+      (room.old was.config (item_at_place old bad.place was.config was.at)) room.new bad.list found.0 in
       let many : 16384 < length bad.list.entries = ltb-true 16384 (length bad.list.entries) found.1 in
       omega (arith, few, many)

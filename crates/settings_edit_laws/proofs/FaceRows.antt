@@ -98,12 +98,14 @@ module _ (doc : Document) (net : Network) (old new : List Config) (chosen : List
   keys = map packet_list_key after.packet_lists
 
   -- a list of an old name was there before
-  pub packet_was_there : (router : ℕ) (c : Config) (name : List ℕ) → slice_get old router ≡ Some c → IsListName c name → Contains keys (router, name) → Contains (map packet_list_key net.packet_lists) (router, name)
+  pub packet_was_there : (router : ℕ) (c : Config) (name : List ℕ) → slice_get old router ≡ Some c → IsListName c name → Contains keys (router, name) →
+      Contains (map packet_list_key net.packet_lists) (router, name)
   packet_was_there router c name at listed there =
       let r = from_map packet_list_key after.packet_lists (router, name) there in
       elim ((is.packet_lists r.0).0 r.1) [
         | inl (place, was, at_place, same) ↦
-            subst (λ (k : ℕ × List ℕ). Contains (map packet_list_key net.packet_lists) k) (ap packet_list_key (sym same) ∙ r.2) (Contains-map packet_list_key net.packet_lists was (item_at_place net.packet_lists place was at_place))
+            subst (λ (k : ℕ × List ℕ). Contains (map packet_list_key net.packet_lists) k) (ap packet_list_key (sym same) ∙ r.2)
+            (Contains-map packet_list_key net.packet_lists was (item_at_place net.packet_lists place was at_place))
         | inr (face, n) ↦
             let router_is : r.0.router.0 ≡ router = ap (λ (k : ℕ × List ℕ). k.0) r.2 in
             let name_is : r.0.name ≡ name = ap (λ (k : ℕ × List ℕ). k.1) r.2 in
@@ -136,22 +138,27 @@ module _ (doc : Document) (net : Network) (old new : List Config) (chosen : List
 
         to : IsEnabled (lines_of t.config) t.face → IsEnabled (lines_of s.config) s.face
         to (inl given) = inl (sym area ∙ given)
-        to (inr covered) = inr (some_and (λ (a : ℕ × ℕ). Any (λ (g : Given Command). CommandCovers a.0 g.value) (lines_of t.config)) (λ (a : ℕ × ℕ). Any (λ (g : Given Command). CommandCovers a.0 g.value) (lines_of s.config))
+        to (inr covered) = inr
+            (some_and (λ (a : ℕ × ℕ). Any (λ (g : Given Command). CommandCovers a.0 g.value) (lines_of t.config))
+            (λ (a : ℕ × ℕ). Any (λ (g : Given Command). CommandCovers a.0 g.value) (lines_of s.config))
             (λ a h. any_was net chosen s.router s.config t.config sa.settings has (CommandCovers a.0) (not_covers a.0) h) (address_of s.face)
             (subst (λ (o : Option (ℕ × ℕ)). IsSomeAnd o (λ (a : ℕ × ℕ). Any (λ (g : Given Command). CommandCovers a.0 g.value) (lines_of t.config))) address covered))
 
         from : IsEnabled (lines_of s.config) s.face → IsEnabled (lines_of t.config) t.face
         from (inl given) = inl (area ∙ given)
         from (inr covered) = inr (subst (λ (o : Option (ℕ × ℕ)). IsSomeAnd o (λ (a : ℕ × ℕ). Any (λ (g : Given Command). CommandCovers a.0 g.value) (lines_of t.config))) (sym address)
-            (some_and (λ (a : ℕ × ℕ). Any (λ (g : Given Command). CommandCovers a.0 g.value) (lines_of s.config)) (λ (a : ℕ × ℕ). Any (λ (g : Given Command). CommandCovers a.0 g.value) (lines_of t.config))
+            (some_and (λ (a : ℕ × ℕ). Any (λ (g : Given Command). CommandCovers a.0 g.value) (lines_of s.config))
+            (λ (a : ℕ × ℕ). Any (λ (g : Given Command). CommandCovers a.0 g.value) (lines_of t.config))
             (λ a h. any_now net chosen s.router s.config t.config sa.settings has (CommandCovers a.0) h) (address_of s.face) covered))
 
     told_of : (p : Protocol) → TellsHost p (lines_of t.config) was.host was.enabled ↔ TellsHost p (lines_of s.config) was.host was.enabled
     told_of Ospf = (λ h. h, λ h. h)
     told_of Bgp = (
-      λ h. some_and (λ (p : Prefix). Any (λ (g : Given Command). g.value ≡ commands.Tells p) (lines_of t.config)) (λ (p : Prefix). Any (λ (g : Given Command). g.value ≡ commands.Tells p) (lines_of s.config))
+      λ h. some_and (λ (p : Prefix). Any (λ (g : Given Command). g.value ≡ commands.Tells p) (lines_of t.config))
+          (λ (p : Prefix). Any (λ (g : Given Command). g.value ≡ commands.Tells p) (lines_of s.config))
           (λ p k. any_was net chosen s.router s.config t.config sa.settings has (λ (c : Command). c ≡ commands.Tells p) (not_tells p) k) was.host h,
-      λ h. some_and (λ (p : Prefix). Any (λ (g : Given Command). g.value ≡ commands.Tells p) (lines_of s.config)) (λ (p : Prefix). Any (λ (g : Given Command). g.value ≡ commands.Tells p) (lines_of t.config))
+      λ h. some_and (λ (p : Prefix). Any (λ (g : Given Command). g.value ≡ commands.Tells p) (lines_of s.config))
+          (λ (p : Prefix). Any (λ (g : Given Command). g.value ≡ commands.Tells p) (lines_of t.config))
           (λ p k. any_now net chosen s.router s.config t.config sa.settings has (λ (c : Command). c ≡ commands.Tells p) k) was.host h,
     )
 
@@ -164,7 +171,8 @@ module _ (doc : Document) (net : Network) (old new : List Config) (chosen : List
 
     cost_stays : cost_of (lines_of t.config) t.face ≡ cost_of (lines_of s.config) s.face
     cost_stays =
-        let reference : last_said says_reference (lines_of t.config) ≡ last_said says_reference (lines_of s.config) = same_said net chosen s.router s.config t.config sa.settings has says_reference no_reference in
+        let reference : last_said says_reference (lines_of t.config) ≡ last_said says_reference (lines_of s.config) =
+        same_said net chosen s.router s.config t.config sa.settings has says_reference no_reference in
         let costs = sa.stays.cost in
         let widths = sa.stays.bandwidth in
         let named = sa.stays.name in
@@ -176,7 +184,8 @@ module _ (doc : Document) (net : Network) (old new : List Config) (chosen : List
         old_flag : was.bound_in ≡ is_some (value s.face.list_in)
         old_flag = fr.bound_in ∙ is_some_value s.face.list_in
 
-        by : (b : Bool) → is_empty (new_classes chosen k) ≡ b → (was.bound_in || not (is_empty (new_classes chosen k))) ≡ is_some (option_or (new_inbound net chosen s.router s.face.name) (value s.face.list_in))
+        by : (b : Bool) → is_empty (new_classes chosen k) ≡ b →
+            (was.bound_in || not (is_empty (new_classes chosen k))) ≡ is_some (option_or (new_inbound net chosen s.router s.face.name) (value s.face.list_in))
         by true e =
             ap (λ c. was.bound_in || not c) e ∙ or_right was.bound_in ∙ old_flag ∙
             sym (ap (λ o. is_some (option_or o (value s.face.list_in))) (inbound_none net g.valid g.small chosen s.router s.face.name k was at_was own fr.name e))
@@ -184,7 +193,8 @@ module _ (doc : Document) (net : Network) (old new : List Config) (chosen : List
             let n = inbound_new net g.valid g.small chosen s.router s.face.name k was at_was own fr.name e in
             ap (λ c. was.bound_in || not c) e ∙ or_true was.bound_in ∙ sym (ap (λ o. is_some (option_or o (value s.face.list_in))) n.2)
 
-    bound_names : (bound : Option (List ℕ)) → ((name : List ℕ) → bound ≡ Some name → BindsPacketList name s.face) → (name : List ℕ) → bound ≡ Some name → Contains keys (s.router, name) → Contains (map packet_list_key net.packet_lists) (s.router, name)
+    bound_names : (bound : Option (List ℕ)) → ((name : List ℕ) → bound ≡ Some name → BindsPacketList name s.face) → (name : List ℕ) → bound ≡ Some name →
+        Contains keys (s.router, name) → Contains (map packet_list_key net.packet_lists) (s.router, name)
     bound_names bound binds name e there =
         packet_was_there s.router s.config name file.file_at (inr (inl (any_of (BindsPacketList name) s.config.faces s.face file.listed (binds name e)))) there
 
@@ -203,19 +213,27 @@ module _ (doc : Document) (net : Network) (old new : List Config) (chosen : List
             inner (Some l) e h =
                 let router_is : l.router.0 ≡ s.router = one_router (packets net chosen g.valid) l.router.0 s.router (record { 0 = k }) l.name given h.named made in
                 let name_is : l.name ≡ given =
-                one_name net g.valid g.small chosen s.router (lists.Packet (record { 0 = k })) l.name given (subst (λ (r : ℕ). IsNewList net chosen r (lists.Packet (record { 0 = k })) l.name) router_is h.named) made in
+                one_name net g.valid g.small chosen s.router (lists.Packet (record { 0 = k })) l.name given
+                (subst (λ (r : ℕ). IsNewList net chosen r (lists.Packet (record { 0 = k })) l.name) router_is h.named) made in
                 key_at packet_list_key net.packet_lists after.packet_lists (edited_packet_list chosen) (λ j m. refl) after.packet_lists id.0 l (s.router, given) e (λ i. (router_is i, name_is i))
 
         by : (b : Bool) → is_empty (new_classes chosen k) ≡ b → MatchBool (is_empty (new_classes chosen k)) (StaysBound (PacketListMoves net chosen after) was.list_in now.list_in)
-            (IsSomeAnd now.list_in (λ id. IsSomeAnd (slice_get after.packet_lists id.0) (IsNewPacketList net chosen (record { 0 = k })))) → IsPlaceAmong keys s.router (option_or (new_inbound net chosen s.router s.face.name) (value s.face.list_in)) now.list_in
+            (IsSomeAnd now.list_in (λ id. IsSomeAnd (slice_get after.packet_lists id.0) (IsNewPacketList net chosen (record { 0 = k })))) →
+            IsPlaceAmong keys s.router (option_or (new_inbound net chosen s.router s.face.name) (value s.face.list_in)) now.list_in
         by true e h =
-            let h' : MatchBool true (StaysBound (PacketListMoves net chosen after) was.list_in now.list_in) (IsSomeAnd now.list_in (λ id. IsSomeAnd (slice_get after.packet_lists id.0) (IsNewPacketList net chosen (record { 0 = k })))) =
-            subst (λ (c : Bool). MatchBool c (StaysBound (PacketListMoves net chosen after) was.list_in now.list_in) (IsSomeAnd now.list_in (λ id. IsSomeAnd (slice_get after.packet_lists id.0) (IsNewPacketList net chosen (record { 0 = k }))))) e h in
-            subst (λ (o : Option (List ℕ)). IsPlaceAmong keys s.router (option_or o (value s.face.list_in)) now.list_in) (sym (inbound_none net g.valid g.small chosen s.router s.face.name k was at_was own fr.name e))
-            (stays_placed packet_list_key net.packet_lists after.packet_lists (edited_packet_list chosen) (λ j m. refl) s.router (value s.face.list_in) was.list_in now.list_in (bound_names (value s.face.list_in) (λ n b. inl b)) h' fr.list_in)
+            let h' : MatchBool true (StaysBound (PacketListMoves net chosen after) was.list_in now.list_in)
+            (IsSomeAnd now.list_in (λ id. IsSomeAnd (slice_get after.packet_lists id.0) (IsNewPacketList net chosen (record { 0 = k })))) =
+            subst (λ (c : Bool). MatchBool c (StaysBound (PacketListMoves net chosen after) was.list_in now.list_in)
+            (IsSomeAnd now.list_in (λ id. IsSomeAnd (slice_get after.packet_lists id.0) (IsNewPacketList net chosen (record { 0 = k }))))) e h in
+            subst (λ (o : Option (List ℕ)). IsPlaceAmong keys s.router (option_or o (value s.face.list_in)) now.list_in)
+            (sym (inbound_none net g.valid g.small chosen s.router s.face.name k was at_was own fr.name e))
+            (stays_placed packet_list_key net.packet_lists after.packet_lists (edited_packet_list chosen) (λ j m. refl) s.router (value s.face.list_in) was.list_in now.list_in
+            (bound_names (value s.face.list_in) (λ n b. inl b)) h' fr.list_in)
         by false e h =
-            let h' : MatchBool false (StaysBound (PacketListMoves net chosen after) was.list_in now.list_in) (IsSomeAnd now.list_in (λ id. IsSomeAnd (slice_get after.packet_lists id.0) (IsNewPacketList net chosen (record { 0 = k })))) =
-            subst (λ (c : Bool). MatchBool c (StaysBound (PacketListMoves net chosen after) was.list_in now.list_in) (IsSomeAnd now.list_in (λ id. IsSomeAnd (slice_get after.packet_lists id.0) (IsNewPacketList net chosen (record { 0 = k }))))) e h in
+            let h' : MatchBool false (StaysBound (PacketListMoves net chosen after) was.list_in now.list_in)
+            (IsSomeAnd now.list_in (λ id. IsSomeAnd (slice_get after.packet_lists id.0) (IsNewPacketList net chosen (record { 0 = k })))) =
+            subst (λ (c : Bool). MatchBool c (StaysBound (PacketListMoves net chosen after) was.list_in now.list_in)
+            (IsSomeAnd now.list_in (λ id. IsSomeAnd (slice_get after.packet_lists id.0) (IsNewPacketList net chosen (record { 0 = k }))))) e h in
             let n = inbound_new net g.valid g.small chosen s.router s.face.name k was at_was own fr.name e in
             subst (λ (o : Option (List ℕ)). IsPlaceAmong keys s.router (option_or o (value s.face.list_in)) now.list_in) (sym n.2) (new_place now.list_in n.0 n.1 h')
 
@@ -223,7 +241,8 @@ module _ (doc : Document) (net : Network) (old new : List Config) (chosen : List
     list_out_place =
         subst (λ (r : ℕ). IsPlaceAmong keys r (value t.face.list_out) now.list_out) (sym sa.router)
         (subst (λ (o : Option (List ℕ)). IsPlaceAmong keys s.router o now.list_out) (sym sa.stays.list_out)
-        (stays_placed packet_list_key net.packet_lists after.packet_lists (edited_packet_list chosen) (λ j m. refl) s.router (value s.face.list_out) was.list_out now.list_out (bound_names (value s.face.list_out) (λ n b. inr b)) fa.list_out fr.list_out))
+        (stays_placed packet_list_key net.packet_lists after.packet_lists (edited_packet_list chosen) (λ j m. refl) s.router (value s.face.list_out) was.list_out now.list_out
+        (bound_names (value s.face.list_out) (λ n b. inr b)) fa.list_out fr.list_out))
 
     enabled_same : now.enabled ≡ was.enabled
     enabled_same = ap (λ (f : FaceRow). f.enabled) fa.same
@@ -239,11 +258,13 @@ module _ (doc : Document) (net : Network) (old new : List Config) (chosen : List
       router = ap (λ (f : FaceRow). f.router.0) fa.same ∙ fr.router ∙ sym sa.router;
       name = ap (λ (f : FaceRow). f.name) fa.same ∙ fr.name ∙ sym sa.stays.name;
       addr = ap (λ (f : FaceRow). f.addr) fa.same ∙ fr.addr ∙ ap (option_map (λ (a : ℕ × ℕ). a.0)) (sym address);
-      subnet = subst (λ (o : Option Prefix). IsSubnet (address_of t.face) o) (sym (ap (λ (f : FaceRow). f.subnet) fa.same)) (subst (λ (a : Option (ℕ × ℕ)). IsSubnet a was.subnet) (sym address) fr.subnet);
+      subnet = subst (λ (o : Option Prefix). IsSubnet (address_of t.face) o) (sym (ap (λ (f : FaceRow). f.subnet) fa.same))
+          (subst (λ (a : Option (ℕ × ℕ)). IsSubnet a was.subnet) (sym address) fr.subnet);
       host = record {
         at_end = λ at_end. host_same ∙ fr.host.at_end (subst (λ (n : FullName). Contains (ends_of doc.links) n) name at_end);
         elsewhere = λ no_end. subst (λ (o : Option Prefix). IsSubnet (host_address_of net.protocol t.face) o) (sym host_same)
-            (subst (λ (a : Option (ℕ × ℕ)). IsSubnet a was.host) (sym (host_address net.protocol)) (fr.host.elsewhere (λ at_end. no_end (subst (λ (n : FullName). Contains (ends_of doc.links) n) (sym name) at_end))));
+            (subst (λ (a : Option (ℕ × ℕ)). IsSubnet a was.host) (sym (host_address net.protocol))
+            (fr.host.elsewhere (λ at_end. no_end (subst (λ (n : FullName). Contains (ends_of doc.links) n) (sym name) at_end))));
       };
       up = ap (λ (f : FaceRow). f.up) fa.same ∙ fr.up ∙ ap (λ (o : Option Bool). not (unwrap_or o false)) (sym sa.stays.shut);
       enabled = subst (λ (b : Bool). IsTrue b ↔ IsEnabled (lines_of t.config) t.face) (sym enabled_same) (λ h. enabled_of.1 (fr.enabled.0 h), λ h. fr.enabled.1 (enabled_of.0 h));

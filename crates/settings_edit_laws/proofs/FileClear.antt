@@ -26,7 +26,9 @@ use Rattle.ios_config.specs.declared.settings.ProcessKind.TheVariants as process
 use Rattle.ios_config.specs.Bare.{bare_process, bare_setting}
 use Rattle.net_rules.specs.Linking.{says_router_id, router_id_line, router_id_of}
 use Rattle.net_rules.specs.Reasons.{IsClear, InFiles}
-use Rattle.net_rules.specs.Routers.{NamesRouter, HasNoOwnName, RefusesHostname, protocol_of_kind, protocol_of, NamesOtherProcess, RunsOther, MixesProcesses, HasNoOwnProcess, RefusesProtocol, area_of_command, line_area, face_area, areas_of, IsFirstArea, IsOther, NamesOtherArea, RefusesTwoAreas, Gives, Repeats, as_of_process, as_of, RefusesSameAs}
+use Rattle.net_rules.specs.Routers.{NamesRouter, HasNoOwnName, RefusesHostname, protocol_of_kind, protocol_of, NamesOtherProcess, RunsOther, MixesProcesses, HasNoOwnProcess, RefusesProtocol}
+use Rattle.net_rules.specs.Routers.{area_of_command}
+use Rattle.net_rules.specs.Routers.{line_area, face_area, areas_of, IsFirstArea, IsOther, NamesOtherArea, RefusesTwoAreas, Gives, Repeats, as_of_process, as_of, RefusesSameAs}
 use Rattle.net_rules.specs.Settings.{value, process_of, lines_of, last_said}
 use Rattle.net_rules.specs.Sites.{host_name}
 use Rattle.net_rules.proofs.HostNames.{hosts_differ}
@@ -43,7 +45,8 @@ use Rattle.settings_edit_laws.proofs.SessionFacts.{pair_at}
 use Rattle.settings_edit_laws.proofs.Sites.{given_of_value}
 
 -- an item that offends is refused
-pub offends_not : {X : Type 0} (kind : Kind) (Offends : ℕ → X → ℕ → Type 0) (items : List X) → IsClear (InFiles kind Offends items) → (place : ℕ) (item : X) (number : ℕ) → slice_get items place ≡ Some item → Offends place item number → ⊥
+pub offends_not : {X : Type 0} (kind : Kind) (Offends : ℕ → X → ℕ → Type 0) (items : List X) → IsClear (InFiles kind Offends items) →
+    (place : ℕ) (item : X) (number : ℕ) → slice_get items place ≡ Some item → Offends place item number → ⊥
 offends_not kind Offends items clear place item number at bad =
     clear (record { file = place + 1; number = number; kind = kind }) (record { place = place; item = item; at_place = at; number = number; offends = bad; told = refl })
 
@@ -83,7 +86,8 @@ first_given : (xs : List (Given ℕ)) → (xs ≡ []) ⊎ ((g : Given ℕ) × Co
 first_given [] = inl refl
 first_given (x ∷ xs) = by (first_given xs)
   where
-    by : (xs ≡ []) ⊎ ((g : Given ℕ) × Contains xs g × ((o : Given ℕ) → Contains xs o → ¬ (o.line < g.line))) → (x ∷ xs ≡ []) ⊎ ((g : Given ℕ) × Contains (x ∷ xs) g × ((o : Given ℕ) → Contains (x ∷ xs) o → ¬ (o.line < g.line)))
+    by : (xs ≡ []) ⊎ ((g : Given ℕ) × Contains xs g × ((o : Given ℕ) → Contains xs o → ¬ (o.line < g.line))) →
+        (x ∷ xs ≡ []) ⊎ ((g : Given ℕ) × Contains (x ∷ xs) g × ((o : Given ℕ) → Contains (x ∷ xs) o → ¬ (o.line < g.line)))
     by (inl none) = inr (
       x,
       Contains-head x xs,
@@ -169,7 +173,8 @@ module _ (doc : Document) (net : Network) (old new : List Config) (chosen : List
           pair_at (λ (f : Config) (h : Config). host_name f ≢ host_name h) old t.0 bad.place first.config was.config (hosts_differ old clear) t.2 first.at was.at (host_first ∙ sym host_this)
 
   -- processes
-  kind_stays : (router : ℕ) (o n : Option ProcessText) → ProcessAfter net chosen router o n → option_map (λ (p : ProcessText). protocol_of_kind p.kind) n ≡ option_map (λ (p : ProcessText). protocol_of_kind p.kind) o
+  kind_stays : (router : ℕ) (o n : Option ProcessText) → ProcessAfter net chosen router o n →
+      option_map (λ (p : ProcessText). protocol_of_kind p.kind) n ≡ option_map (λ (p : ProcessText). protocol_of_kind p.kind) o
   kind_stays router None None h = refl
   kind_stays router None (Some q) h = absurd h
   kind_stays router (Some p) None h = absurd h
@@ -204,7 +209,8 @@ module _ (doc : Document) (net : Network) (old new : List Config) (chosen : List
           let first = AllZip-left (λ (p q : ProcessText). bare_process q ≡ process_with net chosen bad.place (bare_process p)) was.config.process bad.item.process pairs 1 q at in
           mixes_not p e first.0.head (inl (subst (λ (o : Option ProcessText). IsSomeAnd o (λ second. first.0.head ≡ second.head)) (sym first.1) refl))
 
-      other_area : (p q : ProcessText) → process_of was.config ≡ Some p → p.number ≡ q.number → (f h : FaceText) → Contains was.config.faces f → value h.area ≡ value f.area → NamesOtherProcess q bad.number h → ⊥
+      other_area : (p q : ProcessText) → process_of was.config ≡ Some p → p.number ≡ q.number → (f h : FaceText) → Contains was.config.faces f →
+          value h.area ≡ value f.area → NamesOtherProcess q bad.number h → ⊥
       other_area p q e number f h there area named = inner h.area refl named
         where
           inner : (o : Option (Given AreaText)) → h.area ≡ o → IsSomeAnd o (λ x. (bad.number ≡ x.line) × (x.value.process ≢ q.number)) → ⊥
@@ -212,9 +218,13 @@ module _ (doc : Document) (net : Network) (old new : List Config) (chosen : List
           inner (Some x) is k =
               let given = given_of_value f.area x.value (sym area ∙ ap value is) in
               let differs : given.0.value.process ≢ p.number = λ same. k.1 (ap (λ (a : AreaText). a.process) (sym given.2) ∙ same ∙ number) in
-              mixes_not p e given.0.line (inr (inl (any_of (NamesOtherProcess p given.0.line) was.config.faces f there (subst (λ (o : Option (Given AreaText)). IsSomeAnd o (λ y. (given.0.line ≡ y.line) × (y.value.process ≢ p.number))) (sym given.1) (refl, differs)))))
+              mixes_not p e given.0.line
+              (inr (inl (any_of (NamesOtherProcess p given.0.line) was.config.faces f there
+              (subst (λ (o : Option (Given AreaText)). IsSomeAnd o (λ y. (given.0.line ≡ y.line) × (y.value.process ≢ p.number))) (sym given.1) (refl, differs)))))
 
-      by : (n : Option ProcessText) → process_of bad.item ≡ n → MatchOption n (bad.number ≡ 0) (λ process. MixesProcesses (protocol_of new) bad.item process bad.number) → (o : Option ProcessText) → process_of was.config ≡ o → ProcessAfter net chosen bad.place o n → ⊥
+      by : (n : Option ProcessText) → process_of bad.item ≡ n →
+          MatchOption n (bad.number ≡ 0) (λ process. MixesProcesses (protocol_of new) bad.item process bad.number) → (o : Option ProcessText) →
+          process_of was.config ≡ o → ProcessAfter net chosen bad.place o n → ⊥
       by n en m None eo h = absurd (false≢true (sym (ap is_some eo) ∙ g.processes bad.place was.config was.at))
       by None en m (Some p) eo h = h
       by (Some q) en (inl second) (Some p) eo h = second_not p eo (slice_get bad.item.process 1) refl second
@@ -242,14 +252,20 @@ module _ (doc : Document) (net : Network) (old new : List Config) (chosen : List
         silent x added is = none-some given.value (sym (no_area x added) ∙ is)
 
         by : (line : Given Command) (o : Option ℕ) → area_of_command line.value ≡ o → option_map (λ (area : ℕ). record { value = area; line = line.line }) o ≡ Some given →
-            (Any (λ (x : Given Command). area_of_command x.value ≡ Some given.value) (lines_of d) → Any (λ (x : Given Command). area_of_command x.value ≡ Some given.value) (lines_of c)) → Contains (lines_of d) line →
+            (Any (λ (x : Given Command). area_of_command x.value ≡ Some given.value) (lines_of d) →
+            Any (λ (x : Given Command). area_of_command x.value ≡ Some given.value) (lines_of c)) → Contains (lines_of d) line →
             (h : Given ℕ) × Contains (areas_of c) h × (h.value ≡ given.value)
         by line None is e back in_d = absurd (none-some given e)
         by line (Some area) is e back in_d =
             let same : area ≡ given.value = ap (λ (x : Given ℕ). x.value) (same_Some (record { value = area; line = line.line }) given e) in
-            let was = of_any (λ (x : Given Command). area_of_command x.value ≡ Some given.value) (lines_of c) (back (any_of (λ (x : Given Command). area_of_command x.value ≡ Some given.value) (lines_of d) line in_d (is ∙ ap Some same))) in
-            let h : Given ℕ = record { value = given.value; line = was.0.line } in
-            (h, Contains-append_left (filter_map line_area (lines_of c)) (filter_map face_area c.faces) h (picks line_area (lines_of c) was.0 h was.1 (ap (option_map (λ (a : ℕ). record { value = a; line = was.0.line })) was.2)), refl)
+            let was = of_any (λ (x : Given Command). area_of_command x.value ≡ Some given.value) (lines_of c)
+            (back (any_of (λ (x : Given Command). area_of_command x.value ≡ Some given.value) (lines_of d) line in_d (is ∙ ap Some same))) in
+            let h : Given ℕ = record { value = given.value; line = was.0.line } in (
+              h,
+              Contains-append_left (filter_map line_area (lines_of c)) (filter_map face_area c.faces) h
+                  (picks line_area (lines_of c) was.0 h was.1 (ap (option_map (λ (a : ℕ). record { value = a; line = was.0.line })) was.2)),
+              refl,
+            )
 
     face_area_was : (given : Given ℕ) → Contains (filter_map face_area d.faces) given → (h : Given ℕ) × Contains (areas_of c) h × (h.value ≡ given.value)
     face_area_was given there =
@@ -257,7 +273,8 @@ module _ (doc : Document) (net : Network) (old new : List Config) (chosen : List
         let f = face_text_was doc net old new chosen g router c d after p.0 p.1 in
         by f.0 f.1 p.0 f.2.stays.area p.0.area refl p.2
       where
-        by : (f : FaceText) → Contains c.faces f → (h : FaceText) → value h.area ≡ value f.area → (o : Option (Given AreaText)) → h.area ≡ o → option_map (λ (x : Given AreaText). record { value = x.value.area; line = x.line }) o ≡ Some given →
+        by : (f : FaceText) → Contains c.faces f → (h : FaceText) → value h.area ≡ value f.area → (o : Option (Given AreaText)) → h.area ≡ o →
+            option_map (λ (x : Given AreaText). record { value = x.value.area; line = x.line }) o ≡ Some given →
             (k : Given ℕ) × Contains (areas_of c) k × (k.value ≡ given.value)
         by f in_c h area None is e = absurd (none-some given e)
         by f in_c h area (Some x) is e =
@@ -265,12 +282,14 @@ module _ (doc : Document) (net : Network) (old new : List Config) (chosen : List
             let k : Given ℕ = record { value = was.0.value.area; line = was.0.line } in
             let same : x.value.area ≡ given.value = ap (λ (y : Given ℕ). y.value) (same_Some (record { value = x.value.area; line = x.line }) given e) in (
               k,
-              Contains-append_right (filter_map line_area (lines_of c)) (filter_map face_area c.faces) k (picks face_area c.faces f k in_c (ap (option_map (λ (y : Given AreaText). record { value = y.value.area; line = y.line })) was.1)),
+              Contains-append_right (filter_map line_area (lines_of c)) (filter_map face_area c.faces) k
+                  (picks face_area c.faces f k in_c (ap (option_map (λ (y : Given AreaText). record { value = y.value.area; line = y.line })) was.1)),
               ap (λ (a : AreaText). a.area) was.2 ∙ same,
             )
 
     area_was : (given : Given ℕ) → Contains (areas_of d) given → (h : Given ℕ) × Contains (areas_of c) h × (h.value ≡ given.value)
-    area_was given there = elim (Contains-append_cases (filter_map line_area (lines_of d)) (filter_map face_area d.faces) given there) [ inl line ↦ line_area_was given line | inr face ↦ face_area_was given face ]
+    area_was given there = elim (Contains-append_cases (filter_map line_area (lines_of d)) (filter_map face_area d.faces) given there)
+        [ inl line ↦ line_area_was given line | inr face ↦ face_area_was given face ]
 
   pub clear_areas : IsClear (RefusesTwoAreas old) → IsClear (RefusesTwoAreas new)
   clear_areas clear r bad = by (first_area old)
@@ -302,7 +321,8 @@ module _ (doc : Document) (net : Network) (old new : List Config) (chosen : List
               (record { first = area; is_first = is_first; other = any_of (IsOther area x.line) (areas_of c) x there (refl, λ same. false≢true (sym e ∙ grind arith)) }))
 
   -- numbers that may not repeat
-  repeats_not : (kind : Kind) (number_of : Config → Option (Given ℕ)) → ((k : ℕ) (c d : Config) → slice_get old k ≡ Some c → AreSettingsAfter net chosen k c d → value (number_of d) ≡ value (number_of c)) →
+  repeats_not : (kind : Kind) (number_of : Config → Option (Given ℕ)) →
+      ((k : ℕ) (c d : Config) → slice_get old k ≡ Some c → AreSettingsAfter net chosen k c d → value (number_of d) ≡ value (number_of c)) →
       IsClear (InFiles kind (Repeats number_of old) old) → IsClear (InFiles kind (Repeats number_of new) new)
   repeats_not kind number_of stays clear r bad = by (number_of bad.item) refl bad.offends
     where
@@ -336,7 +356,8 @@ module _ (doc : Document) (net : Network) (old new : List Config) (chosen : List
       of_kind processes.Ospf p q e = refl
       of_kind processes.Bgp p q e = ap Some e
 
-      by : (o n : Option ProcessText) → ProcessAfter net chosen k o n → value (option_and_then (λ (p : ProcessText). as_of_process p.kind p) n) ≡ value (option_and_then (λ (p : ProcessText). as_of_process p.kind p) o)
+      by : (o n : Option ProcessText) → ProcessAfter net chosen k o n →
+          value (option_and_then (λ (p : ProcessText). as_of_process p.kind p) n) ≡ value (option_and_then (λ (p : ProcessText). as_of_process p.kind p) o)
       by None None h = refl
       by None (Some q) h = absurd h
       by (Some p) None h = absurd h
@@ -349,12 +370,14 @@ module _ (doc : Document) (net : Network) (old new : List Config) (chosen : List
   router_id_stays k c d at after =
       by_lines (lines_of d) None ∙ same_said net chosen k c d after (g.processes k c at) says_router_id no_router_id ∙ sym (by_lines (lines_of c) None)
     where
-      picked : (line : Given Command) (o : Option (Given ℕ)) (p : Option ℕ) (l : List (Given ℕ)) (m : List ℕ) → value o ≡ p → ((a : Option (Given ℕ)) (b : Option ℕ) → value a ≡ b → value (last_or a l) ≡ last_or b m) →
+      picked : (line : Given Command) (o : Option (Given ℕ)) (p : Option ℕ) (l : List (Given ℕ)) (m : List ℕ) → value o ≡ p →
+          ((a : Option (Given ℕ)) (b : Option ℕ) → value a ≡ b → value (last_or a l) ≡ last_or b m) →
           (q : Option ℕ) → value (last_or o (cons_option (option_map (λ (id : ℕ). record { value = id; line = line.line }) q) l)) ≡ last_or p (cons_option q m)
       picked line o p l m e later None = later o p e
       picked line o p l m e later (Some id) = later (Some (record { value = id; line = line.line })) (Some id) refl
 
-      by_all : (lines : List (Given Command)) (o : Option (Given ℕ)) (p : Option ℕ) → value o ≡ p → value (last_or o (filter_map router_id_line lines)) ≡ last_or p (filter_map (λ (x : Given Command). says_router_id x.value) lines)
+      by_all : (lines : List (Given Command)) (o : Option (Given ℕ)) (p : Option ℕ) → value o ≡ p →
+          value (last_or o (filter_map router_id_line lines)) ≡ last_or p (filter_map (λ (x : Given Command). says_router_id x.value) lines)
       by_all [] o p e = e
       by_all (line ∷ lines) o p e =
           picked line o p (filter_map router_id_line lines) (filter_map (λ (x : Given Command). says_router_id x.value) lines) e (λ a b f. by_all lines a b f) (says_router_id line.value)

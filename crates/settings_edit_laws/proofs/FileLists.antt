@@ -29,8 +29,10 @@ use Rattle.settings_edit_laws.proofs.TextKinds.{TextsOfKind}
 pub record AreBound (net : Network) (chosen : List Edit) (old : List Config) (K : ListsOfKind net chosen) (T : TextsOfKind net chosen K) : Type 0 where
   pub just : (row : K.Row) → Contains K.lists row ↔ T.IsRow old row
   pub now : (router : ℕ) (c d : Config) (name : List ℕ) → slice_get old router ≡ Some c → AreSettingsAfter net chosen router c d → T.IsBound c name → T.IsBound d name
-  pub was : (router : ℕ) (c d : Config) (name : List ℕ) → slice_get old router ≡ Some c → AreSettingsAfter net chosen router c d → T.IsBound d name → T.IsBound c name ⊎ ((face : Face) × IsNewList net chosen router (K.new face) name)
-  pub new : (face : Face) (row : K.Row) → K.IsNew face row → (c : Config) × (slice_get old (K.router row) ≡ Some c) × ((d : Config) → AreSettingsAfter net chosen (K.router row) c d → T.IsBound d (K.name row))
+  pub was : (router : ℕ) (c d : Config) (name : List ℕ) → slice_get old router ≡ Some c → AreSettingsAfter net chosen router c d → T.IsBound d name →
+      T.IsBound c name ⊎ ((face : Face) × IsNewList net chosen router (K.new face) name)
+  pub new : (face : Face) (row : K.Row) → K.IsNew face row →
+      (c : Config) × (slice_get old (K.router row) ≡ Some c) × ((d : Config) → AreSettingsAfter net chosen (K.router row) c d → T.IsBound d (K.name row))
 
 of_kind : (packet : Bool) (l : ListText) → is_of_kind packet l ≡ true → is_packet_kind l.kind ≡ packet
 of_kind true l e = e
@@ -40,11 +42,13 @@ of_kind false l e = by (is_packet_kind l.kind) e
     by true e = absurd (false≢true e)
     by false e = refl
 
-module _ (doc : Document) (net : Network) (old new : List Config) (chosen : List Edit) (g : AreEdited doc net old new chosen) {K : ListsOfKind net chosen} (T : TextsOfKind net chosen K) (bound : AreBound net chosen old K T) where
+module _ (doc : Document) (net : Network) (old new : List Config) (chosen : List Edit) (g : AreEdited doc net old new chosen) {K : ListsOfKind net chosen} (T : TextsOfKind net chosen K)
+    (bound : AreBound net chosen old K T) where
   abbrev row_at : ℕ → Config → List ℕ → Option K.Row
   row_at router c name = row_of T router name (list_named T.packet c name)
 
-  is_row : (configs : List Config) (row : K.Row) (router : ℕ) (name : List ℕ) (c : Config) → K.router row ≡ router → K.name row ≡ name → slice_get configs router ≡ Some c → T.IsBound c name → row_at router c name ≡ Some row → T.IsRow configs row
+  is_row : (configs : List Config) (row : K.Row) (router : ℕ) (name : List ℕ) (c : Config) → K.router row ≡ router → K.name row ≡ name →
+      slice_get configs router ≡ Some c → T.IsBound c name → row_at router c name ≡ Some row → T.IsRow configs row
   is_row configs row router name c own named at binds defined =
       T.to_row configs row c (ap (slice_get configs) own ∙ at) (subst (T.IsBound c) (sym named) binds) (ap (λ (r : ℕ). row_at r c (K.name row)) own ∙ ap (row_at router c) named ∙ defined)
 
@@ -74,7 +78,8 @@ module _ (doc : Document) (net : Network) (old new : List Config) (chosen : List
     row_is l b e has = ap (row_of T router name) e ∙ ap (λ b. option_map (row_text T router name) (if b then Some l else None)) has
 
     -- the row of a network's list after the edits
-    defined_now : none_new → (place : ℕ) (was : K.Row) → slice_get K.lists place ≡ Some was → K.router was ≡ router → K.name was ≡ name → row_at router c name ≡ Some was → row_at router d name ≡ Some (K.edited place was)
+    defined_now : none_new → (place : ℕ) (was : K.Row) → slice_get K.lists place ≡ Some was → K.router was ≡ router → K.name was ≡ name →
+        row_at router c name ≡ Some was → row_at router d name ≡ Some (K.edited place was)
     defined_now none place was at_place own named is = by (list_named T.packet c name) refl
       where
         by : (o : Option ListText) → list_named T.packet c name ≡ o → row_at router d name ≡ Some (K.edited place was)
@@ -113,13 +118,15 @@ module _ (doc : Document) (net : Network) (old new : List Config) (chosen : List
                 not_there place was at_place own named =
                     let r = T.from_row old was ((bound.just was).0 (item_at_place K.lists place was at_place)) in
                     let same : r.0 ≡ c = same_Some r.0 c (sym r.1 ∙ ap (slice_get old) own ∙ at) in
-                    none-some was (sym (row_is l false e has) ∙ sym (ap (row_at router c) named) ∙ sym (ap (λ (n : ℕ). row_at n c (K.name was)) own) ∙ sym (ap (λ (k : Config). row_at (K.router was) k (K.name was)) same) ∙ r.3)
+                    none-some was (sym (row_is l false e has) ∙ sym (ap (row_at router c) named) ∙ sym (ap (λ (n : ℕ). row_at n c (K.name was)) own)
+                    ∙ sym (ap (λ (k : Config). row_at (K.router was) k (K.name was)) same) ∙ r.3)
 
     -- a new list is defined as it is made
     defined_new : (face : Face) → IsNewList net chosen router (K.new face) name → row_at router d name ≡ Some (T.made router name (new_list_kind (K.new face)) (T.first face ++ T.last ∷ []))
     defined_new face made =
         row_now_is (Some (new_list_text chosen name (K.new face)))
-        (new_named net g.valid g.small chosen router c d after T.packet name (no_old (list_named T.packet c name) refl) ∙ new_text net g.valid g.small chosen router c d after T.packet name (K.new face) made (T.new_kind_is face)) ∙
+        (new_named net g.valid g.small chosen router c d after T.packet name (no_old (list_named T.packet c name) refl)
+        ∙ new_text net g.valid g.small chosen router c d after T.packet name (K.new face) made (T.new_kind_is face)) ∙
         row_new T router name face
       where
         no_old : (o : Option ListText) → list_named T.packet c name ≡ o → list_named T.packet c name ≡ None

@@ -96,13 +96,15 @@ module _ (net : Network) (valid : IsValid net) (small : IsCountable net) (chosen
         let line : list_for net face name (Packet (record { 0 = place })) ≡ Some name =
         ap (option_and_then (λ (r : FaceRow). if bytes_eq r.name face then Some name else None)) at ∙ ap (λ b. if b then Some name else None) ((bytes_eq-Decides row.name face).1 named) in
         let there : Contains inbound_names name =
-        picks (λ (l : NewList × List ℕ). list_for net face l.1 l.0) (named_lists net chosen router) (Packet (record { 0 = place }), name) name (named_of_new net valid small chosen router (Packet (record { 0 = place })) name new) line in
+        picks (λ (l : NewList × List ℕ). list_for net face l.1 l.0) (named_lists net chosen router) (Packet (record { 0 = place }), name) name
+        (named_of_new net valid small chosen router (Packet (record { 0 = place })) name new) line in
         let f = some_first inbound_names name there in
         let i : IsInbound f.0 = inbound_is f.0 f.1 in
         let spot : i.place ≡ place = same_place f.0 i in
         f.1 ∙ ap Some (one_name net valid small chosen router (Packet (record { 0 = place })) f.0 name (subst (λ (k : ℕ). IsNewList net chosen router (Packet (record { 0 = k })) f.0) spot i.new) new)
 
-    pub inbound_new : is_empty (new_classes chosen place) ≡ false → (name : List ℕ) × IsNewList net chosen router (Packet (record { 0 = place })) name × (new_inbound net chosen router face ≡ Some name)
+    pub inbound_new : is_empty (new_classes chosen place) ≡ false →
+        (name : List ℕ) × IsNewList net chosen router (Packet (record { 0 = place })) name × (new_inbound net chosen router face ≡ Some name)
     inbound_new filled =
         let made = packet_list_there net valid small chosen place row at filled in
         let list : IsNewList net chosen router (Packet (record { 0 = place })) made.0 = subst (λ (r : ℕ). IsNewList net chosen r (Packet (record { 0 = place })) made.0) own made.1 in

@@ -51,13 +51,19 @@ module _ (doc : Document) (net : Network) (old new : List Config) (chosen : List
   packet_lists_are : ArePacketLists new after.packet_lists
   packet_lists_are = record {
     order = is.packet_order;
-    just = λ row. (λ there. (packets.same_packet_lists doc net old new chosen g row).0 ((is.packet_lists row).0 there), λ r. (is.packet_lists row).1 ((packets.same_packet_lists doc net old new chosen g row).1 r));
+    just = λ row. (
+      λ there. (packets.same_packet_lists doc net old new chosen g row).0 ((is.packet_lists row).0 there),
+      λ r. (is.packet_lists row).1 ((packets.same_packet_lists doc net old new chosen g row).1 r),
+    );
   }
 
   route_lists_are : AreRouteLists new after.route_lists
   route_lists_are = record {
     order = is.route_order;
-    just = λ row. (λ there. (routes.same_route_lists doc net old new chosen g row).0 ((is.route_lists row).0 there), λ r. (is.route_lists row).1 ((routes.same_route_lists doc net old new chosen g row).1 r));
+    just = λ row. (
+      λ there. (routes.same_route_lists doc net old new chosen g row).0 ((is.route_lists row).0 there),
+      λ r. (is.route_lists row).1 ((routes.same_route_lists doc net old new chosen g row).1 r),
+    );
   }
 
   sessions_are : (p : Protocol) → net.protocol ≡ p → AreSessions p new after.links (map route_list_key after.route_lists) after.sessions
@@ -72,7 +78,8 @@ module _ (doc : Document) (net : Network) (old new : List Config) (chosen : List
       protocol = is.protocol ∙ g.rows.base.protocol ∙ sym (protocol_stays doc net old new chosen g);
       routers = subst (λ (p : Protocol). AllZip (IsRouterRow p) new after.routers) (sym is.protocol) (routers_are_rows doc net old new chosen g after is);
       packet_lists = packet_lists_are;
-      faces = subst (λ (p : Protocol). AllZip (IsFaceRow p (ends_of doc.links) (map packet_list_key after.packet_lists)) (sites new) after.faces) (sym is.protocol) (faces_are_rows doc net old new chosen g after is);
+      faces = subst (λ (p : Protocol). AllZip (IsFaceRow p (ends_of doc.links) (map packet_list_key after.packet_lists)) (sites new) after.faces) (sym is.protocol)
+          (faces_are_rows doc net old new chosen g after is);
       links = subst (λ (ls : List LinkRow). AllZip (IsLinkRow (full_names new)) doc.links ls) (sym is.links)
           (subst (λ (ns : List FullName). AllZip (IsLinkRow ns) doc.links net.links) (sym (full_names_stay net chosen old new g.settings)) g.rows.base.links);
       route_lists = route_lists_are;
@@ -148,10 +155,17 @@ all_processes configs clear k c at = by (process_of c) refl
     by None e = let line : ℕ = 0 in absurd (refused line refl e)
 
 pub network_is_after : (doc : Document) (files new_files : List (List ℕ)) (net : Network) (is : IsNetworkOf doc files net) (chosen : List Edit) (new : List Config) (after : Network) →
-    IsValid net → IsCountable net → AreFitting net chosen → HasRoom chosen is.configs → AllZip Says new_files new → AreAllSettingsAfter net chosen is.configs new → IsAfter net chosen after → IsValid after →
+    IsValid net → IsCountable net → AreFitting net chosen → HasRoom chosen is.configs → AllZip Says new_files new →
+    AreAllSettingsAfter net chosen is.configs new → IsAfter net chosen after → IsValid after →
     IsNetworkOf doc new_files after
 network_is_after doc files new_files net is chosen new after valid small fits room said settings is_after valid_after =
     let formed : All IsWellFormed is.configs = all_well_formed files is.configs is.said in
     let distinct : AreDistinct (full_names is.configs) = full_names_distinct is.configs (hosts_differ is.configs is.clear.0) (λ k d within. (formed k d within).faces_differ) in
     let g : AreEdited doc net is.configs new chosen = record { rows = is.rows; valid = valid; small = small; fits = fits; settings = settings; processes = all_processes is.configs is.clear.1.0 } in
-    record { configs = new; said = said; rows = rows_are doc net is.configs new chosen g after is_after; clear = none_refused doc net is.configs new chosen g after is_after valid_after distinct room is.clear }
+    record {
+      configs = new;
+      said = said;
+      rows = rows_are doc net is.configs new chosen g after is_after;
+      clear =
+          none_refused doc net is.configs new chosen g after is_after valid_after distinct room is.clear;
+    }

@@ -116,7 +116,8 @@ module _ (net : Network) (chosen : List Edit) (router : ℕ) where
   lines_agree None (Some q) h some = absurd h
   lines_agree (Some p) None h some = absurd h
   lines_agree (Some p) (Some q) h some =
-      sym (bare_commands q.lines) ∙ ap (λ (r : ProcessText). commands_of r.lines) h ∙ map-append (λ (g : Given Command). g.value) (map bare_given p.lines) (map said (process_commands net chosen router)) ∙
+      sym (bare_commands q.lines) ∙ ap (λ (r : ProcessText). commands_of r.lines) h ∙ map-append (λ (g : Given Command). g.value) (map bare_given p.lines) (map
+      said (process_commands net chosen router)) ∙
       ap (λ l. l ++ commands_of (map said (process_commands net chosen router))) (bare_commands p.lines) ∙ ap (λ l. commands_of p.lines ++ l) (said_commands (process_commands net chosen router))
 
   module _ (old new : Config) (after : AreSettingsAfter net chosen router old new) where

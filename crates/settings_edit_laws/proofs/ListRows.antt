@@ -72,7 +72,8 @@ module _ {net : Network} {chosen : List Edit} {K : ListsOfKind net chosen} (T : 
           let first : (K.router was == router) ≡ true = grind arith in
           ap (λ b. b && bytes_eq (K.name was) name) first ∙ (bytes_eq-Decides (K.name was) name).1 named
 
-      elsewhere : (c : ℕ × T.Thing) → ((c.0 ≡ place) → ⊥) → (o : Option K.Row) → slice_get K.lists c.0 ≡ o → None ≡ option_and_then (λ (l : K.Row). if_own_list router name (K.router l) (K.name l) c.1) o
+      elsewhere : (c : ℕ × T.Thing) → ((c.0 ≡ place) → ⊥) → (o : Option K.Row) → slice_get K.lists c.0 ≡ o →
+          None ≡ option_and_then (λ (l : K.Row). if_own_list router name (K.router l) (K.name l) c.1) o
       elsewhere c differs None e = refl
       elsewhere c differs (Some l) e = sym (ap (λ b. if b then Some c.1 else None) (false_from_ne_true ((K.router l == router) && bytes_eq (K.name l) name) taken))
         where
@@ -89,7 +90,8 @@ module _ {net : Network} {chosen : List Edit} {K : ListsOfKind net chosen} (T : 
           by : (b : Bool) → (c.0 == place) ≡ b → (if (c.0 == place) then Some c.1 else None) ≡ own_for c
           by true e =
               let there : slice_get K.lists c.0 ≡ Some was = ap (slice_get K.lists) (eqb-true c.0 place e) ∙ at in
-              ap (λ b. if b then Some c.1 else None) e ∙ sym (ap (option_and_then (λ (l : K.Row). if_own_list router name (K.router l) (K.name l) c.1)) there ∙ ap (λ b. if b then Some c.1 else None) own_test)
+              ap (λ b. if b then Some c.1 else None) e
+              ∙ sym (ap (option_and_then (λ (l : K.Row). if_own_list router name (K.router l) (K.name l) c.1)) there ∙ ap (λ b. if b then Some c.1 else None) own_test)
           by false e = ap (λ b. if b then Some c.1 else None) e ∙ elsewhere c (λ same. false≢true (sym e ∙ grind arith)) (slice_get K.lists c.0) refl
 
       of_change : (o : Option (ℕ × T.Thing)) → option_and_then (if_number place) o ≡ option_and_then own_for o
@@ -114,12 +116,14 @@ module _ {net : Network} {chosen : List Edit} {K : ListsOfKind net chosen} (T : 
         no_change (Some c) = no_list c (slice_get K.lists c.0) refl
 
     -- the entries of a list after the edits
-    entries_with : (l : ListText) → is_packet_kind l.kind ≡ T.packet → l.name ≡ name → entries_of (list_with net chosen router l) ≡ map (T.opposite (entries_of l)) (filter_map (T.thing_for router name) chosen) ++ entries_of l
+    entries_with : (l : ListText) → is_packet_kind l.kind ≡ T.packet → l.name ≡ name →
+        entries_of (list_with net chosen router l) ≡ map (T.opposite (entries_of l)) (filter_map (T.thing_for router name) chosen) ++ entries_of l
     entries_with l kind named =
         filter_map-append (λ (g : Given Command). T.entry g.value) (map said (front_lines net chosen router l l.kind)) l.entries ∙
         ap (λ (cs : List Command). filter_map (λ (g : Given Command). T.entry g.value) (map said cs) ++ entries_of l) (T.front_is router l kind) ∙
         ap (λ (es : List T.Entry). es ++ entries_of l)
-        (said_picks T.entry (λ (x : T.Thing). T.line l (T.opposite (entries_of l) x)) (T.opposite (entries_of l)) (λ x. T.line_is l (T.opposite (entries_of l) x)) (filter_map (T.thing_for router l.name) chosen)) ∙
+        (said_picks T.entry (λ (x : T.Thing). T.line l (T.opposite (entries_of l) x)) (T.opposite (entries_of l)) (λ x. T.line_is l (T.opposite (entries_of l) x))
+        (filter_map (T.thing_for router l.name) chosen)) ∙
         ap (λ (n : List ℕ). map (T.opposite (entries_of l)) (filter_map (T.thing_for router n) chosen) ++ entries_of l) named
 
     -- the row of a list that the network had, and of one that it did not have
@@ -131,7 +135,8 @@ module _ {net : Network} {chosen : List Edit} {K : ListsOfKind net chosen} (T : 
         (entries_with l kind named_l ∙ ap (λ (xs : List T.Thing). map (T.opposite (entries_of l)) xs ++ entries_of l) (sym (things_same place was at own named))) ∙
         ap Some (sym (T.edited_is place router name l.kind (entries_of l))) ∙ ap (λ (r : K.Row). Some (K.edited place r)) is
 
-    pub row_not_edited : ((place : ℕ) (was : K.Row) → slice_get K.lists place ≡ Some was → K.router was ≡ router → K.name was ≡ name → ⊥) → (l : ListText) → is_packet_kind l.kind ≡ T.packet → l.name ≡ name →
+    pub row_not_edited : ((place : ℕ) (was : K.Row) → slice_get K.lists place ≡ Some was → K.router was ≡ router → K.name was ≡ name → ⊥) → (l : ListText) →
+        is_packet_kind l.kind ≡ T.packet → l.name ≡ name →
         has_entries l.entries ≡ false → row_of router name (Some (list_with net chosen router l)) ≡ None
     row_not_edited none l kind named has =
         let empty : filter_map (T.thing_for router l.name) chosen ≡ [] = ap (λ (n : List ℕ). filter_map (T.thing_for router n) chosen) named ∙ no_things none in
@@ -141,7 +146,8 @@ module _ {net : Network} {chosen : List Edit} {K : ListsOfKind net chosen} (T : 
     -- the row of a new list
     pub row_new : (f : Face) → row_of router name (Some (new_list_text chosen name (K.new f))) ≡ Some (T.made router name (new_list_kind (K.new f)) (T.first f ++ T.last ∷ []))
     row_new f =
-        ap (λ b. option_map (row_text router name) (if b then Some (new_list_text chosen name (K.new f)) else None)) (ap (λ (cs : List Command). has_entries (map said cs)) (T.new_lines_are name f) ∙ some_entries (T.first f)) ∙
+        ap (λ b. option_map (row_text router name) (if b then Some (new_list_text chosen name (K.new f)) else None))
+        (ap (λ (cs : List Command). has_entries (map said cs)) (T.new_lines_are name f) ∙ some_entries (T.first f)) ∙
         ap (λ (es : List T.Entry). Some (T.made router name (new_list_kind (K.new f)) es))
         (ap (λ (cs : List Command). filter_map (λ (g : Given Command). T.entry g.value) (map said cs)) (T.new_lines_are name f) ∙
         said_picks T.entry (T.new_line name) (λ (e : T.Entry). e) (T.new_line_is name) (T.first f ++ T.last ∷ []) ∙ map_same (T.first f ++ T.last ∷ []))

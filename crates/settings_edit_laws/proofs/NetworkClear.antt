@@ -49,7 +49,8 @@ module _ (doc : Document) (net : Network) (old new : List Config) (chosen : List
   clear_interfaces clear r bad =
       let was = file_was doc net old new chosen g bad.place bad.config bad.at_place in
       let count : length bad.config.faces ≡ length was.config.faces = faces_count net chosen bad.place was.config bad.config was.after in
-      clear (record { file = bad.place + 1; number = 0; kind = kinds.Limit limits.Interfaces (length was.config.faces) }) (record { place = bad.place; config = was.config; at_place = was.at; many = omega (arith, bad.many, count); told = refl })
+      clear (record { file = bad.place + 1; number = 0; kind = kinds.Limit limits.Interfaces (length was.config.faces) })
+      (record { place = bad.place; config = was.config; at_place = was.at; many = omega (arith, bad.many, count); told = refl })
 
   module _ (after : Network) (is : IsAfter net chosen after) (valid_after : IsValid after) (rows : AreRows doc new after) (distinct : AreDistinct (full_names old)) where
     pub one : (other : Network) → AreRows doc new other → other ≡ after

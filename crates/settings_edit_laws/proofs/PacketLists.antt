@@ -31,7 +31,8 @@ use Rattle.settings_edit_laws.proofs.Sites.{IsSiteAfter, is_some_value}
 
 module _ (doc : Document) (net : Network) (old new : List Config) (chosen : List Edit) (g : AreEdited doc net old new chosen) where
   -- an interface that binds a list has no new one
-  pub keeps_bound : (router : ℕ) (c : Config) (f : FaceText) (name : List ℕ) → slice_get old router ≡ Some c → Contains c.faces f → value f.list_in ≡ Some name → new_inbound net chosen router f.name ≡ None
+  pub keeps_bound : (router : ℕ) (c : Config) (f : FaceText) (name : List ℕ) → slice_get old router ≡ Some c → Contains c.faces f →
+      value f.list_in ≡ Some name → new_inbound net chosen router f.name ≡ None
   keeps_bound router c f name at there bound = no_inbound net g.valid g.small chosen router f.name (λ n i. clash n i)
     where
       clash : (n : List ℕ) → IsInbound net g.valid g.small chosen router f.name n → ⊥
@@ -52,12 +53,14 @@ module _ (doc : Document) (net : Network) (old new : List Config) (chosen : List
       let h = face_text_now doc net old new chosen g router c d after b.0 b.1 in
       any_of (BindsPacketList name) d.faces h.0 h.1 (by b.0 b.1 h.0 h.2 b.2)
     where
-      by : (f : FaceText) → Contains c.faces f → (h : FaceText) → IsSiteAfter net chosen (record { router = router; config = c; face = f }) (record { router = router; config = d; face = h }) → BindsPacketList name f → BindsPacketList name h
+      by : (f : FaceText) → Contains c.faces f → (h : FaceText) →
+          IsSiteAfter net chosen (record { router = router; config = c; face = f }) (record { router = router; config = d; face = h }) → BindsPacketList name f → BindsPacketList name h
       by f there h s (inl inbound) = inl (s.list_in ∙ ap (λ (o : Option (List ℕ)). option_or o (value f.list_in)) (keeps_bound router c f name at there inbound) ∙ inbound)
       by f there h s (inr outbound) = inr (s.stays.list_out ∙ outbound)
 
   -- what is bound was bound, or is a new list
-  pub bound_was : (router : ℕ) (c d : Config) (name : List ℕ) → AreSettingsAfter net chosen router c d → IsBoundPacketList d name → IsBoundPacketList c name ⊎ ((face : Face) × IsNewList net chosen router (lists.Packet face) name)
+  pub bound_was : (router : ℕ) (c d : Config) (name : List ℕ) → AreSettingsAfter net chosen router c d → IsBoundPacketList d name →
+      IsBoundPacketList c name ⊎ ((face : Face) × IsNewList net chosen router (lists.Packet face) name)
   bound_was router c d name after bound =
       let b = of_any (BindsPacketList name) d.faces bound in
       let f = face_text_was doc net old new chosen g router c d after b.0 b.1 in
@@ -70,23 +73,27 @@ module _ (doc : Document) (net : Network) (old new : List Config) (chosen : List
           let i = inbound_is net g.valid g.small chosen router f.name n some in
           inr (record { 0 = i.place }, subst (λ (m : List ℕ). IsNewList net chosen router (lists.Packet (record { 0 = i.place })) m) (same_Some n name e) i.new)
 
-      by : (f : FaceText) → Contains c.faces f → (h : FaceText) → IsSiteAfter net chosen (record { router = router; config = c; face = f }) (record { router = router; config = d; face = h }) → BindsPacketList name h →
+      by : (f : FaceText) → Contains c.faces f → (h : FaceText) →
+          IsSiteAfter net chosen (record { router = router; config = c; face = f }) (record { router = router; config = d; face = h }) → BindsPacketList name h →
           IsBoundPacketList c name ⊎ ((face : Face) × IsNewList net chosen router (lists.Packet face) name)
       by f there h s (inl inbound) = of_inbound f there (new_inbound net chosen router f.name) refl (sym s.list_in ∙ inbound)
       by f there h s (inr outbound) = inl (any_of (BindsPacketList name) c.faces f there (inr (sym s.stays.list_out ∙ outbound)))
 
   pub same_packet_lists : (row : PacketList) → IsPacketListAfter net chosen row ↔ IsPacketListRow new row
   same_packet_lists =
-      same_lists doc net old new chosen g (packet_texts net chosen g.valid) (record { just = g.rows.base.packet_lists.just; now = bound_now; was = λ router c d name at. bound_was router c d name; new = new_bound })
+      same_lists doc net old new chosen g (packet_texts net chosen g.valid)
+      (record { just = g.rows.base.packet_lists.just; now = bound_now; was = λ router c d name at. bound_was router c d name; new = new_bound })
     where
       -- a new list is bound where it is to stand
-      new_bound : (face : Face) (row : PacketList) → IsNewPacketList net chosen face row → (c : Config) × (slice_get old row.router.0 ≡ Some c) × ((d : Config) → AreSettingsAfter net chosen row.router.0 c d → IsBoundPacketList d row.name)
+      new_bound : (face : Face) (row : PacketList) → IsNewPacketList net chosen face row →
+          (c : Config) × (slice_get old row.router.0 ≡ Some c) × ((d : Config) → AreSettingsAfter net chosen row.router.0 c d → IsBoundPacketList d row.name)
       new_bound face row n =
           let of = of_packet_face net g.valid chosen row.router.0 face row.name n.named in
           let s = face_site doc net old new chosen g face.0 of.row of.at in
           let file = site_of old face.0 s.0 s.1 in
           let router : s.0.router ≡ row.router.0 = sym s.2.router ∙ sym of.router_is in
-          let inbound : new_inbound net chosen row.router.0 s.0.face.name ≡ Some row.name = inbound_named net g.valid g.small chosen row.router.0 s.0.face.name face.0 of.row of.at (sym of.router_is) s.2.name row.name n.named in (
+          let inbound : new_inbound net chosen row.router.0 s.0.face.name ≡ Some row.name =
+          inbound_named net g.valid g.small chosen row.router.0 s.0.face.name face.0 of.row of.at (sym of.router_is) s.2.name row.name n.named in (
             s.0.config,
             ap (slice_get old) (sym router) ∙ file.file_at,
             λ d after.

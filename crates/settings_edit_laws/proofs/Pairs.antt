@@ -14,7 +14,8 @@ first [] = None
 first (x ∷ xs) = Some x
 
 -- what is picked of what is picked
-pub picked_twice : {X Y Z : Type 0} (h : Y → Option Z) (g : X → Option Y) (k : X → Option Z) → ((x : X) → option_and_then h (g x) ≡ k x) → (xs : List X) → filter_map h (filter_map g xs) ≡ filter_map k xs
+pub picked_twice : {X Y Z : Type 0} (h : Y → Option Z) (g : X → Option Y) (k : X → Option Z) → ((x : X) → option_and_then h (g x) ≡ k x) → (xs : List X) →
+    filter_map h (filter_map g xs) ≡ filter_map k xs
 picked_twice h g k same [] = refl
 picked_twice {X} {Y} {Z} h g k same (x ∷ xs) = by (g x) ∙ ap (λ o. cons_option o (filter_map h (filter_map g xs))) (same x) ∙ ap (cons_option (k x)) (picked_twice h g k same xs)
   where
@@ -48,7 +49,8 @@ zip_weaker R S (x ∷ xs) [] f h = absurd h
 zip_weaker R S (x ∷ xs) (y ∷ ys) f h = (f x y h.0, zip_weaker R S xs ys f h.1)
 
 -- a relation of all items at one place makes lists go together
-pub zip_from : {X Y : Type 0} (R : X → Y → Type 0) (xs : List X) (ys : List Y) → length ys ≡ length xs → ((k : ℕ) (x : X) (y : Y) → slice_get xs k ≡ Some x → slice_get ys k ≡ Some y → R x y) → AllZip R xs ys
+pub zip_from : {X Y : Type 0} (R : X → Y → Type 0) (xs : List X) (ys : List Y) → length ys ≡ length xs →
+    ((k : ℕ) (x : X) (y : Y) → slice_get xs k ≡ Some x → slice_get ys k ≡ Some y → R x y) → AllZip R xs ys
 zip_from R [] [] e h = tt
 zip_from R [] (y ∷ ys) e h = absurd (omega (arith, e))
 zip_from R (x ∷ xs) [] e h = absurd (omega (arith, e))
@@ -83,7 +85,8 @@ pub last_is_one : {X : Type 0} (o : Option X) (xs : List X) (x : X) → Contains
 last_is_one o [] x there one = absurd (Contains-none x there)
 last_is_one o (y ∷ []) x there one = ap Some (one y (Contains-head y []))
 last_is_one o (y ∷ z ∷ xs) x there one =
-    last_is_one (Some y) (z ∷ xs) x (subst (λ w. Contains (z ∷ xs) w) (one z (Contains-tail y z (z ∷ xs) (Contains-head z xs))) (Contains-head z xs)) (λ w later. one w (Contains-tail y w (z ∷ xs) later))
+    last_is_one (Some y) (z ∷ xs) x (subst (λ w. Contains (z ∷ xs) w) (one z (Contains-tail y z (z ∷ xs) (Contains-head z xs))) (Contains-head z xs))
+    (λ w later. one w (Contains-tail y w (z ∷ xs) later))
 
 pub any_of : {X : Type 0} (P : X → Type 0) (xs : List X) (x : X) → Contains xs x → P x → Any P xs
 any_of P xs x (k, l, e) p = (k, x, l, e, p)

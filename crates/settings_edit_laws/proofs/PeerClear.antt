@@ -72,14 +72,16 @@ module _ (doc : Document) (net : Network) (old new : List Config) (chosen : List
           is_near = near.1;
           far = far.0;
           is_far = item_at_place (sites new) place.0 far.0 far.1;
-          joined = subst (λ (n : FullName). AreJoined doc.links n (full_name far.0)) near_name (subst (λ (n : FullName). AreJoined doc.links (host_name c, k.far_end.near.name) n) far_name k.far_end.joined);
+          joined = subst (λ (n : FullName). AreJoined doc.links n (full_name far.0)) near_name
+              (subst (λ (n : FullName). AreJoined doc.links (host_name c, k.far_end.near.name) n) far_name k.far_end.joined);
           address = ap (option_map (λ (a : ℕ × ℕ). a.0)) (address_stays k.far_end.far.face far.0.face far.2.stays) ∙ k.far_end.address;
         };
         remote = ap is_some (same_said net chosen router c d after (g.processes router c at) (says_remote peer) (no_remote peer)) ∙ k.remote;
       }
 
   -- the neighbour of a session is known in the file of its interface
-  session_known : (router : ℕ) (c : Config) → slice_get old router ≡ Some c → (s : SessionRow) (row : FaceRow) → Contains net.sessions s → slice_get net.faces s.face.0 ≡ Some row → row.router.0 ≡ router → IsKnown doc old c s.peer
+  session_known : (router : ℕ) (c : Config) → slice_get old router ≡ Some c → (s : SessionRow) (row : FaceRow) → Contains net.sessions s →
+      slice_get net.faces s.face.0 ≡ Some row → row.router.0 ≡ router → IsKnown doc old c s.peer
   session_known router c at s row there at_row own =
       let o = (session_is doc net old new chosen g s there) in
       let so = o.session_of in
@@ -103,14 +105,16 @@ module _ (doc : Document) (net : Network) (old new : List Config) (chosen : List
       } in
       subst (λ (k : Config). IsKnown doc old k s.peer) config_is known
     where
-      ends : (text : LinkText) (row : LinkRow) (from_a : Bool) → IsLinkRow (full_names old) text row → (near far : FullName) → slice_get (full_names old) (tail_end row from_a).0 ≡ Some near → slice_get (full_names old) (head_end row from_a).0 ≡ Some far →
+      ends : (text : LinkText) (row : LinkRow) (from_a : Bool) → IsLinkRow (full_names old) text row → (near far : FullName) →
+          slice_get (full_names old) (tail_end row from_a).0 ≡ Some near → slice_get (full_names old) (head_end row from_a).0 ≡ Some far →
           ((a_end text ≡ near) × (b_end text ≡ far)) ⊎ ((b_end text ≡ near) × (a_end text ≡ far))
       ends text row true l near far at_near at_far = inl (same_Some (a_end text) near (sym l.a ∙ at_near), same_Some (b_end text) far (sym l.b ∙ at_far))
       ends text row false l near far at_near at_far = inr (same_Some (b_end text) near (sym l.b ∙ at_near), same_Some (a_end text) far (sym l.a ∙ at_far))
 
   -- each neighbour that an added line names is known
   module _ (router : ℕ) (c : Config) (at : slice_get old router ≡ Some c) (peer : ℕ) where
-    of_session_line : (p : Protocol) (place : ℕ) (row : FaceRow) (x : Command) → slice_get net.faces place ≡ Some row → row.router.0 ≡ router → session_line p net place row ≡ Some x → names_peer x ≡ Some peer → IsKnown doc old c peer
+    of_session_line : (p : Protocol) (place : ℕ) (row : FaceRow) (x : Command) → slice_get net.faces place ≡ Some row → row.router.0 ≡ router →
+        session_line p net place row ≡ Some x → names_peer x ≡ Some peer → IsKnown doc old c peer
     of_session_line Ospf place row x at_row own is named = absurd (none-some peer (ap names_peer (same_Some (commands.Passive (not row.passive) (Some row.name)) x is) ∙ named))
     of_session_line Bgp place row x at_row own is named = by (session_at net (record { 0 = place })) refl is
       where
@@ -171,7 +175,8 @@ module _ (doc : Document) (net : Network) (old new : List Config) (chosen : List
       by : Contains (commands_of (lines_of was.config)) line.0.value ⊎ Contains (turning_lines net chosen bad.place ++ filter_lines net chosen bad.place) line.0.value → ⊥
       by (inl before) =
           let first = from_map (λ (x : Given Command). x.value) (lines_of was.config) line.0.value before in
-          offends_not kinds.NeighborUnknown (λ (place : ℕ) (config : Config) (number : ℕ). Any (NamesOther (IsKnown doc old config) number) (lines_of config)) old clear bad.place was.config first.0.line was.at
+          offends_not kinds.NeighborUnknown (λ (place : ℕ) (config : Config) (number : ℕ). Any (NamesOther (IsKnown doc old config) number) (lines_of config)) old clear bad.place
+          was.config first.0.line was.at
           (any_of (NamesOther (IsKnown doc old was.config) first.0.line) (lines_of was.config) first.0 first.1 (refl, (peer, ap names_peer first.2 ∙ line.2.1.1, unknown)))
       by (inr added) = unknown (added_known bad.place was.config was.at peer line.0.value added line.2.1.1)
 

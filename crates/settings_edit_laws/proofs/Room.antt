@@ -27,7 +27,7 @@ found {X} p (y ∷ xs) x there pass e = by (p y) refl (Contains-cases y x xs the
     by false f (inl same) later = false≢true (sym f ∙ ap p same ∙ pass)
     by false f (inr there) later = later there (sym (ap (λ c. cond c (Some y) (find p xs)) f) ∙ e)
 
-few_zipped : {X Y : Type 0} (xs : List X) (ys : List Y) → length (zip xs ys) ≤ length xs
+pub few_zipped : {X Y : Type 0} (xs : List X) (ys : List Y) → length (zip xs ys) ≤ length xs
 few_zipped [] ys = omega arith
 few_zipped (x ∷ xs) [] = omega arith
 few_zipped (x ∷ xs) (y ∷ ys) = omega (arith, few_zipped xs ys)
@@ -44,7 +44,8 @@ list_short configs clear config in_files list in_file = elim (cases_lt 2048 (len
     by : (o : Option ListText) → long_list 2048 config ≡ o → nat_lt 2048 (length list.entries) ≡ true → ⊥
     by None e long = found (λ (l : ListText). nat_lt 2048 (length l.entries)) config.lists list in_file long e
     by (Some first) e long =
-        clear (record { file = at.0 + 1; number = 0; kind = kinds.Limit limits.Entries (length first.entries) }) (record { place = at.0; config = config; at_place = at.1; list = first; first = e; told = refl })
+        clear (record { file = at.0 + 1; number = 0; kind = kinds.Limit limits.Entries (length first.entries) })
+        (record { place = at.0; config = config; at_place = at.1; list = first; first = e; told = refl })
 
 pub room_within : (configs : List Config) (list : List Edit) (flags : List Bool) → IsClear (RefusesEntries 2048 configs) → length list ≤ 8192 → HasRoom (chosen_of list flags) configs
 room_within configs list flags clear few =

@@ -67,7 +67,8 @@ module _ (doc : Document) (net : Network) (old new : List Config) (chosen : List
       no_names (n ∷ names) none = absurd (none n (Contains-head n names))
 
   -- what is bound was bound, or is a new list
-  pub bound_was : (router : ℕ) (c d : Config) (name : List ℕ) → slice_get old router ≡ Some c → AreSettingsAfter net chosen router c d → IsBoundRouteList d name → IsBoundRouteList c name ⊎ ((face : Face) × IsNewList net chosen router (lists.Route face) name)
+  pub bound_was : (router : ℕ) (c d : Config) (name : List ℕ) → slice_get old router ≡ Some c → AreSettingsAfter net chosen router c d →
+      IsBoundRouteList d name → IsBoundRouteList c name ⊎ ((face : Face) × IsNewList net chosen router (lists.Route face) name)
   bound_was router c d name at after bound =
       elim (last_is_in (filter_of (lines_of c) bound.0) (names_bound net g.valid g.small chosen router bound.0) name
       (sym (filter_after net g.valid g.small chosen router c d after (g.processes router c at) bound.0) ∙ bound.1)) [
@@ -80,7 +81,8 @@ module _ (doc : Document) (net : Network) (old new : List Config) (chosen : List
       same_lists doc net old new chosen g (route_texts net chosen g.valid) (record { just = g.rows.base.route_lists.just; now = bound_now; was = bound_was; new = new_bound })
     where
       -- a new list is bound where it is to stand
-      new_bound : (face : Face) (row : RouteList) → IsNewRouteList net chosen face row → (c : Config) × (slice_get old row.router.0 ≡ Some c) × ((d : Config) → AreSettingsAfter net chosen row.router.0 c d → IsBoundRouteList d row.name)
+      new_bound : (face : Face) (row : RouteList) → IsNewRouteList net chosen face row →
+          (c : Config) × (slice_get old row.router.0 ≡ Some c) × ((d : Config) → AreSettingsAfter net chosen row.router.0 c d → IsBoundRouteList d row.name)
       new_bound face row n =
           let of = of_route_face net g.valid chosen row.router.0 face row.name n.named in
           let at_face : slice_get net.faces of.session.face.0 ≡ Some of.row = ap (λ (f : Face). slice_get net.faces f.0) of.face_is ∙ of.at in
@@ -92,7 +94,9 @@ module _ (doc : Document) (net : Network) (old new : List Config) (chosen : List
             s.0.config,
             at,
             λ d after.
-                let bound = filter_is_new net g.valid g.small chosen row.router.0 s.0.config d after (g.processes row.router.0 s.0.config at) of.session of.row of.one at_face (sym of.router_is) filled in
-                let same : bound.0 ≡ row.name = one_name net g.valid g.small chosen row.router.0 (lists.Route face) bound.0 row.name (subst (λ (f : Face). IsNewList net chosen row.router.0 (lists.Route f) bound.0) of.face_is bound.1) n.named in
+                let bound = filter_is_new net g.valid g.small chosen row.router.0 s.0.config d after (g.processes row.router.0 s.0.config at) of.session of.row of.one at_face
+                (sym of.router_is) filled in
+                let same : bound.0 ≡ row.name = one_name net g.valid g.small chosen row.router.0 (lists.Route face) bound.0 row.name
+                (subst (λ (f : Face). IsNewList net chosen row.router.0 (lists.Route f) bound.0) of.face_is bound.1) n.named in
                 (of.session.peer, bound.2 ∙ ap Some same),
           )

@@ -4,7 +4,7 @@ use Rattle.std.specs.Prelude.{Any, Contains, slice_get, option_map}
 use Rattle.std.specs.List.{AllZip}
 use Rattle.std.proofs.lemmas.List.{map-append}
 use Rattle.std.proofs.lemmas.List.Elements.{Contains-append_cases, Contains-append_left, Contains-append_right}
-use Rattle.std.proofs.lemmas.Option.{same_Some}
+use Rattle.std.proofs.lemmas.Option.{same_Some, slice_get_within}
 use Rattle.arc_base.proofs.Items.{Contains-map, from_map}
 use Rattle.net_model.specs.declared.policies.Document.{Document}
 use Rattle.net_model.specs.declared.rows.RouterRow.{RouterRow}
@@ -64,7 +64,8 @@ module _ (doc : Document) (net : Network) (old new : List Config) (chosen : List
   module _ (router : ℕ) (c d : Config) (at : slice_get old router ≡ Some c) (after : AreSettingsAfter net chosen router c d) (name : List ℕ) where
     new_names : names_of d.lists ≡ names_of after.front ++ (names_of (new_list_texts net chosen router) ++ names_of after.back)
     new_names =
-        sym (plain_names d.lists) ∙ ap names_of after.new_lists ∙ map-append (λ (l : ListText). l.name) (map (list_with net chosen router) after.front) (new_list_texts net chosen router ++ map (list_with net chosen router) after.back) ∙
+        sym (plain_names d.lists) ∙ ap names_of after.new_lists ∙ map-append (λ (l : ListText). l.name) (map (list_with net chosen router) after.front)
+        (new_list_texts net chosen router ++ map (list_with net chosen router) after.back) ∙
         ap (λ ns. ns ++ names_of (new_list_texts net chosen router ++ map (list_with net chosen router) after.back)) (with_names net chosen router after.front) ∙
         ap (λ ns. names_of after.front ++ ns) (map-append (λ (l : ListText). l.name) (new_list_texts net chosen router) (map (list_with net chosen router) after.back) ∙
         ap (λ ns. names_of (new_list_texts net chosen router) ++ ns) (with_names net chosen router after.back))
@@ -73,13 +74,14 @@ module _ (doc : Document) (net : Network) (old new : List Config) (chosen : List
     old_names = sym (plain_names c.lists) ∙ ap names_of after.old_lists ∙ map-append (λ (l : ListText). l.name) after.front after.back
 
     given_was : Any (λ l. l.name ≡ name) d.lists → IsListName c name ⊎ Contains (new_names_of net chosen router) name
-    given_was h = elim (Contains-append_cases (names_of after.front) (names_of (new_list_texts net chosen router) ++ names_of after.back) name (subst (λ (l : List (List ℕ)). Contains l name) new_names (named_in d.lists name h))) [
-      | inl front ↦ inl (old_given (Contains-append_left (names_of after.front) (names_of after.back) name front))
-      | inr later ↦ elim (Contains-append_cases (names_of (new_list_texts net chosen router)) (names_of after.back) name later) [
-        | inl made ↦ inr (made_given made)
-        | inr back ↦ inl (old_given (Contains-append_right (names_of after.front) (names_of after.back) name back))
-      ]
-    ]
+    given_was h = elim (Contains-append_cases (names_of after.front) (names_of (new_list_texts net chosen router) ++ names_of after.back) name
+        (subst (λ (l : List (List ℕ)). Contains l name) new_names (named_in d.lists name h))) [
+          | inl front ↦ inl (old_given (Contains-append_left (names_of after.front) (names_of after.back) name front))
+          | inr later ↦ elim (Contains-append_cases (names_of (new_list_texts net chosen router)) (names_of after.back) name later) [
+            | inl made ↦ inr (made_given made)
+            | inr back ↦ inl (old_given (Contains-append_right (names_of after.front) (names_of after.back) name back))
+          ]
+        ]
       where
         old_given : Contains (names_of after.front ++ names_of after.back) name → IsListName c name
         old_given k = inl (in_named c.lists name (subst (λ (l : List (List ℕ)). Contains l name) (sym old_names) k))
@@ -103,7 +105,8 @@ module _ (doc : Document) (net : Network) (old new : List Config) (chosen : List
     given_now : Contains (names_of after.front ++ names_of after.back) name → Contains (names_of d.lists) name
     given_now h = subst (λ (l : List (List ℕ)). Contains l name) (sym new_names) (elim (Contains-append_cases (names_of after.front) (names_of after.back) name h) [
       | inl front ↦ Contains-append_left (names_of after.front) (names_of (new_list_texts net chosen router) ++ names_of after.back) name front
-      | inr back ↦ Contains-append_right (names_of after.front) (names_of (new_list_texts net chosen router) ++ names_of after.back) name (Contains-append_right (names_of (new_list_texts net chosen router)) (names_of after.back) name back)
+      | inr back ↦ Contains-append_right (names_of after.front) (names_of (new_list_texts net chosen router) ++ names_of after.back) name
+          (Contains-append_right (names_of (new_list_texts net chosen router)) (names_of after.back) name back)
     ])
 
     name_now : IsListName c name ⊎ Contains (new_names_of net chosen router) name → IsListName d name
@@ -111,18 +114,21 @@ module _ (doc : Document) (net : Network) (old new : List Config) (chosen : List
     name_now (inl (inr (inl packet))) = inr (inl (bound_now doc net old new chosen g router c d name at after packet))
     name_now (inl (inr (inr route))) = inr (inr (routes.bound_now doc net old new chosen g router c d name at after route))
     name_now (inr made) =
-        let m = list_of_name net g.valid g.small chosen router name made in
+        let row = router_row doc net old new chosen g router c at in
+        let m = list_of_name net g.valid g.small chosen router (slice_get_within net.routers router row.0 row.1) name made in
         let text : Contains (new_list_texts net chosen router) (new_list_text chosen name m.0) =
         Contains-map (λ (l : NewList × List ℕ). new_list_text chosen l.1 l.0) (named_lists net chosen router) (m.0, name) (named_of_new net g.valid g.small chosen router m.0 name m.1) in
         inl (in_named d.lists name (subst (λ (l : List (List ℕ)). Contains l name) (sym new_names)
         (Contains-append_right (names_of after.front) (names_of (new_list_texts net chosen router) ++ names_of after.back) name
-        (Contains-append_left (names_of (new_list_texts net chosen router)) (names_of after.back) name (Contains-map (λ (l : ListText). l.name) (new_list_texts net chosen router) (new_list_text chosen name m.0) text)))))
+        (Contains-append_left (names_of (new_list_texts net chosen router)) (names_of after.back) name
+        (Contains-map (λ (l : ListText). l.name) (new_list_texts net chosen router) (new_list_text chosen name m.0) text)))))
 
   asn_stays : (p : Protocol) (router : ℕ) (c d : Config) → AreSettingsAfter net chosen router c d → asn_of p d ≡ asn_of p c
   asn_stays Ospf router c d after = refl
   asn_stays Bgp router c d after = ap (λ o. unwrap_or o 0) (number_stays net chosen router (process_of c) (process_of d) (process_after net chosen router c d after))
 
-  router_row_after : (after : Network) (router : ℕ) (c d : Config) → slice_get old router ≡ Some c → AreSettingsAfter net chosen router c d → (was now : RouterRow) → IsRouterRow net.protocol c was → IsRouterAfter net chosen router was now → IsRouterRow net.protocol d now
+  router_row_after : (after : Network) (router : ℕ) (c d : Config) → slice_get old router ≡ Some c → AreSettingsAfter net chosen router c d →
+      (was now : RouterRow) → IsRouterRow net.protocol c was → IsRouterAfter net chosen router was now → IsRouterRow net.protocol d now
   router_row_after after router c d at s was now r a = record {
     name = a.name ∙ r.name ∙ sym (host_stays net chosen router c d s);
     asn = a.asn ∙ r.asn ∙ sym (asn_stays net.protocol router c d s);

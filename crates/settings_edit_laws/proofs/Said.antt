@@ -59,7 +59,8 @@ module _ {X : Type 0} (says : Command → Option X) (x : X) (k : ℕ) (line : Ed
   turned o (edits.Session f ∷ es) = ap (last_or o) (picked_cons says (line (edits.Session f)) (filter_map line es)) ∙ by (f.0 == k) refl (λ p. turned p es)
     where
       by : (b : Bool) → (f.0 == k) ≡ b → ((p : Option X) → last_or p (filter_map says (filter_map line es)) ≡ Said es p) →
-          last_or o (cons_option (option_and_then says (line (edits.Session f))) (filter_map says (filter_map line es))) ≡ (if ((f.0 == k) || list_any (λ (place : ℕ). place == k) (filter_map session_change es)) then Some x else o)
+          last_or o (cons_option (option_and_then says (line (edits.Session f))) (filter_map says (filter_map line es))) ≡ (if
+          ((f.0 == k) || list_any (λ (place : ℕ). place == k) (filter_map session_change es)) then Some x else o)
       by true e later =
           ap (λ p. last_or o (cons_option p (filter_map says (filter_map line es)))) (here f (eqb-true f.0 k e)) ∙ later (Some x) ∙
           always (list_any (λ (place : ℕ). place == k) (filter_map session_change es)) ∙
@@ -94,10 +95,7 @@ filter_line_is net name (lists.Route face) c e = by (session_at net face) refl e
 module _ (net : Network) (valid : IsValid net) (small : IsCountable net) (chosen : List Edit) (router : ℕ) where
   turning_other : (e : Edit) → session_change e ≡ None → turning_line net router e ≡ None
   turning_other (edits.Session f) is = absurd (none-some f.0 (sym is))
-  turning_other (edits.RouteList list prefix) is = refl
-  turning_other (edits.RouteNew face prefix) is = refl
-  turning_other (edits.PacketList list class) is = refl
-  turning_other (edits.PacketNew face class) is = refl
+  turning_other other is = refl
 
   own_face_there : (k : ℕ) (row : FaceRow) → slice_get net.faces k ≡ Some row → row.router.0 ≡ router → own_face net router k ≡ Some row
   own_face_there k row at own =
@@ -107,7 +105,8 @@ module _ (net : Network) (valid : IsValid net) (small : IsCountable net) (chosen
   pub own_face_found : (k : ℕ) (row : FaceRow) → own_face net router k ≡ Some row → (slice_get net.faces k ≡ Some row) × (row.router.0 ≡ router)
   own_face_found k row e = by (slice_get net.faces k) refl e
     where
-      by : (o : Option FaceRow) → slice_get net.faces k ≡ o → option_and_then (λ (f : FaceRow). if f.router.0 == router then Some f else None) o ≡ Some row → (slice_get net.faces k ≡ Some row) × (row.router.0 ≡ router)
+      by : (o : Option FaceRow) → slice_get net.faces k ≡ o → option_and_then (λ (f : FaceRow). if f.router.0 == router then Some f else None) o ≡ Some row →
+          (slice_get net.faces k ≡ Some row) × (row.router.0 ≡ router)
       by None at e = absurd (none-some row e)
       by (Some f) at e = inner (f.router.0 == router) refl e
         where
@@ -162,7 +161,8 @@ module _ (net : Network) (valid : IsValid net) (small : IsCountable net) (chosen
               ap (λ b. if b then Some (not t.down) else None)
               (false_from_ne_true (t.peer == s.peer)
               (λ same.
-              let one : t ≡ s = one_session_peer net valid t s g row found.0 there (ap (slice_get net.faces) found.1 ∙ at_g) (ap (slice_get net.faces) at_face ∙ at_row) (own_g ∙ sym own) (eqb-true t.peer s.peer same) in
+              let one : t ≡ s = one_session_peer net valid t s g row found.0 there (ap (slice_get net.faces) found.1 ∙ at_g) (ap (slice_get net.faces) at_face ∙ at_row)
+              (own_g ∙ sym own) (eqb-true t.peer s.peer same) in
               differ (sym found.1 ∙ ap (λ (u : SessionRow). u.face.0) one ∙ at_face)))
 
           by : (o : Option FaceRow) → own_face net router f.0 ≡ o → option_and_then (says_down s.peer) (option_and_then (session_line Bgp net f.0) o) ≡ None
@@ -222,7 +222,8 @@ module _ (net : Network) (valid : IsValid net) (small : IsCountable net) (chosen
       let new : IsNewList net chosen router (lists.Route b.face) r.0.1 = subst (λ (l : NewList). IsNewList net chosen router l r.0.1) b.is_route (new_of_named net valid small chosen router r.0 r.1) in
       by b.face b.session b.at r.0.1 new (b.session.peer == peer) refl said
     where
-      by : (face : Face) (s : SessionRow) → session_at net face ≡ Some s → (n : List ℕ) → IsNewList net chosen router (lists.Route face) n → (t : Bool) → (s.peer == peer) ≡ t → (if t then Some n else None) ≡ Some name → IsBoundNew peer name
+      by : (face : Face) (s : SessionRow) → session_at net face ≡ Some s → (n : List ℕ) → IsNewList net chosen router (lists.Route face) n → (t : Bool) →
+          (s.peer == peer) ≡ t → (if t then Some n else None) ≡ Some name → IsBoundNew peer name
       by face s at n new true t e =
           record { face = face; new = subst (λ (m : List ℕ). IsNewList net chosen router (lists.Route face) m) (same_Some n name e) new; session = s; at = at; peer_is = eqb-true s.peer peer t }
       by face s at n new false t e = absurd (none-some name e)
@@ -231,7 +232,8 @@ module _ (net : Network) (valid : IsValid net) (small : IsCountable net) (chosen
   bound_there face s name new at =
       let line : filter_command net (lists.Route face) name ≡ Some (commands.NeighborList s.peer name) = ap (option_map (λ (t : SessionRow). commands.NeighborList t.peer name)) at in
       let there : Contains (filter_lines net chosen router) (commands.NeighborList s.peer name) =
-      picks (λ (l : NewList × List ℕ). filter_command net l.0 l.1) (named_lists net chosen router) (lists.Route face, name) (commands.NeighborList s.peer name) (named_of_new net valid small chosen router (lists.Route face) name new) line in
+      picks (λ (l : NewList × List ℕ). filter_command net l.0 l.1) (named_lists net chosen router) (lists.Route face, name) (commands.NeighborList s.peer name)
+      (named_of_new net valid small chosen router (lists.Route face) name new) line in
       let test : (s.peer == s.peer) ≡ true = grind arith in
       picks (says_filter s.peer) (filter_lines net chosen router) (commands.NeighborList s.peer name) name there (ap (λ b. if b then Some name else None) test)
 
@@ -251,16 +253,19 @@ module _ (net : Network) (valid : IsValid net) (small : IsCountable net) (chosen
     passive_now k row at own Ospf is was =
         ap (λ o. unwrap_or o false)
         (said_after net chosen router old new after has (says_passive row.name) ∙
-        ap (λ l. last_or (last_or (last_said (says_passive row.name) (lines_of old)) (filter_map (says_passive row.name) (turning_lines net chosen router))) l) (binding_only (says_passive row.name) (λ peer name. refl)) ∙
+        ap (λ l. last_or (last_or (last_said (says_passive row.name) (lines_of old)) (filter_map (says_passive row.name) (turning_lines net chosen router))) l)
+        (binding_only (says_passive row.name) (λ peer name. refl)) ∙
         passive_lines k row at own is (last_said (says_passive row.name) (lines_of old))) ∙
         turned_flag (turns_session chosen k) row.passive (last_said (says_passive row.name) (lines_of old)) (sym was)
 
-    pub down_now : (s : SessionRow) (row : FaceRow) → net.protocol ≡ Bgp → Contains net.sessions s → slice_get net.faces s.face.0 ≡ Some row → row.router.0 ≡ router → s.down ≡ is_down (lines_of old) s.peer →
+    pub down_now : (s : SessionRow) (row : FaceRow) → net.protocol ≡ Bgp → Contains net.sessions s → slice_get net.faces s.face.0 ≡ Some row →
+        row.router.0 ≡ router → s.down ≡ is_down (lines_of old) s.peer →
         is_down (lines_of new) s.peer ≡ turned_if (turns_session chosen s.face.0) s.down
     down_now s row bgp there at own was =
         ap (λ o. unwrap_or o false)
         (said_after net chosen router old new after has (says_down s.peer) ∙
-        ap (λ l. last_or (last_or (last_said (says_down s.peer) (lines_of old)) (filter_map (says_down s.peer) (turning_lines net chosen router))) l) (binding_only (says_down s.peer) (λ peer name. refl)) ∙
+        ap (λ l. last_or (last_or (last_said (says_down s.peer) (lines_of old)) (filter_map (says_down s.peer) (turning_lines net chosen router))) l)
+        (binding_only (says_down s.peer) (λ peer name. refl)) ∙
         down_lines s.face.0 row at own bgp s there refl (last_said (says_down s.peer) (lines_of old))) ∙
         turned_flag (turns_session chosen s.face.0) s.down (last_said (says_down s.peer) (lines_of old)) (sym was)
 
@@ -294,8 +299,12 @@ module _ (net : Network) (valid : IsValid net) (small : IsCountable net) (chosen
           let made = route_list_there net valid small chosen s row there at filled in
           let name : List ℕ = made.0 in
           let list : IsNewList net chosen router (lists.Route s.face) name = subst (λ (r : ℕ). IsNewList net chosen r (lists.Route s.face) name) own made.1 in
-          let in_names : Contains (names_bound s.peer) name = bound_there s.face s name list (session_there net valid s.face s there refl) in
-          (name, list, filter_after s.peer ∙ last_is_one (filter_of (lines_of old) s.peer) (names_bound s.peer) name in_names (λ other in_other. same_name name list other (bound_new s.peer other in_other)))
+          let in_names : Contains (names_bound s.peer) name = bound_there s.face s name list (session_there net valid s.face s there refl) in (
+            name,
+            list,
+            filter_after s.peer ∙ last_is_one (filter_of (lines_of old) s.peer) (names_bound s.peer) name in_names
+                (λ other in_other. same_name name list other (bound_new s.peer other in_other)),
+          )
         where
           same_name : (name : List ℕ) → IsNewList net chosen router (lists.Route s.face) name → (other : List ℕ) → IsBoundNew s.peer other → other ≡ name
           same_name name list other b =

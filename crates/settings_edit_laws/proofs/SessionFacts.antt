@@ -11,6 +11,7 @@ use Rattle.net_model.specs.declared.rows.SessionRow.{SessionRow}
 use Rattle.net_model.specs.declared.rows.Network.{Network}
 use Rattle.net_model.specs.Routing.{session_at}
 use Rattle.net_model.specs.Validity.{IsValid, AreSessionsApart}
+use Rattle.edit_list.proofs.Apart.{one_session}
 
 -- what is found is there and passes the test
 pub find_in : {X : Type 0} (p : X → Bool) (xs : List X) (x : X) → find p xs ≡ Some x → Contains xs x × (p x ≡ true)
@@ -59,15 +60,18 @@ pair_at {X} R xs i j x y all low at_x at_y =
 -- two items at places that are not apart are at one place
 pub one_place_apart : {X : Type 0} (R : X → X → Type 0) (xs : List X) (j k : ℕ) (x y : X) → AllPairs R xs → slice_get xs j ≡ Some x → slice_get xs k ≡ Some y → ¬ R x y → ¬ R y x → j ≡ k
 one_place_apart {X} R xs j k x y all at_x at_y differ back = elim (cases_lt j k) [
-  | inl low ↦ absurd (differ (subst (λ (w : X). R x w) (get_or_from_slice_get xs k y x at_y) (subst (λ (v : X). R v (get_or xs k x)) (get_or_from_slice_get xs j x x at_x) (all j k x low (slice_get_within xs k y at_y)))))
+  | inl low ↦ absurd (differ
+      (subst (λ (w : X). R x w) (get_or_from_slice_get xs k y x at_y) (subst (λ (v : X). R v (get_or xs k x)) (get_or_from_slice_get xs j x x at_x) (all j k x low (slice_get_within xs k y at_y)))))
   | inr high ↦ elim (cases_lt k j) [
-    | inl low ↦ absurd (back (subst (λ (w : X). R y w) (get_or_from_slice_get xs j x y at_x) (subst (λ (v : X). R v (get_or xs j y)) (get_or_from_slice_get xs k y y at_y) (all k j y low (slice_get_within xs j x at_x)))))
+    | inl low ↦ absurd (back
+        (subst (λ (w : X). R y w) (get_or_from_slice_get xs j x y at_x) (subst (λ (v : X). R v (get_or xs j y)) (get_or_from_slice_get xs k y y at_y) (all k j y low (slice_get_within xs j x at_x)))))
     | inr same ↦ omega (arith, high, same)
   ]
 ]
 
 -- two items of one router with one name are at one place
-pub one_named : {X : Type 0} (router : X → ℕ) (name : X → List ℕ) (xs : List X) (j k : ℕ) (x y : X) → AllPairs (λ x y. router x ≡ router y → name x ≢ name y) xs → slice_get xs j ≡ Some x → slice_get xs k ≡ Some y → router x ≡ router y → name x ≡ name y → j ≡ k
+pub one_named : {X : Type 0} (router : X → ℕ) (name : X → List ℕ) (xs : List X) (j k : ℕ) (x y : X) →
+    AllPairs (λ x y. router x ≡ router y → name x ≢ name y) xs → slice_get xs j ≡ Some x → slice_get xs k ≡ Some y → router x ≡ router y → name x ≡ name y → j ≡ k
 one_named {X} router name xs j k x y all at_x at_y routers names =
     one_place_apart (λ (x : X) (y : X). router x ≡ router y → name x ≢ name y) xs j k x y all at_x at_y (λ apart. apart routers names) (λ apart. apart (sym routers) (sym names))
 
@@ -75,10 +79,6 @@ module _ (net : Network) (valid : IsValid net) where
   -- interfaces of one router with one name are one
   pub one_face : (j k : ℕ) (f g : FaceRow) → slice_get net.faces j ≡ Some f → slice_get net.faces k ≡ Some g → f.router.0 ≡ g.router.0 → f.name ≡ g.name → j ≡ k
   one_face j k f g at_f at_g routers names = one_named (λ (h : FaceRow). h.router.0) (λ (h : FaceRow). h.name) net.faces j k f g valid.faces_named_apart at_f at_g routers names
-
-  pub one_session_face : (s t : SessionRow) → Contains net.sessions s → Contains net.sessions t → s.face.0 ≡ t.face.0 → s ≡ t
-  one_session_face s t in_s in_t same =
-      pairs_same (AreSessionsApart net) net.sessions s t valid.sessions_apart in_s in_t (λ apart. apart.0 same) (λ apart. apart.0 (sym same))
 
   pub one_session_peer : (s t : SessionRow) (f g : FaceRow) → Contains net.sessions s → Contains net.sessions t → slice_get net.faces s.face.0 ≡ Some f → slice_get net.faces t.face.0 ≡ Some g →
       f.router.0 ≡ g.router.0 → s.peer ≡ t.peer → s ≡ t
@@ -94,4 +94,4 @@ module _ (net : Network) (valid : IsValid net) where
   pub session_there : (face : Face) (s : SessionRow) → Contains net.sessions s → s.face.0 ≡ face.0 → session_at net face ≡ Some s
   session_there face s there same =
       find_one (λ (t : SessionRow). t.face.0 == face.0) net.sessions s there (grind arith)
-      (λ t in_t pass. one_session_face t s in_t there (eqb-true t.face.0 face.0 pass ∙ sym same))
+      (λ t in_t pass. one_session net valid t s in_t there (eqb-true t.face.0 face.0 pass ∙ sym same))

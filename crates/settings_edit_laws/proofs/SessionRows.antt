@@ -86,7 +86,8 @@ placed_among keys router (Some name) = elim (find_place keys router name) [
   | inr none ↦ (None, none)
 ]
 
-module _ (doc : Document) (net : Network) (old new : List Config) (chosen : List Edit) (g : AreEdited doc net old new chosen) (after : Network) (is : IsAfter net chosen after) (lists_are : AreRouteLists new after.route_lists) (bgp : net.protocol ≡ Bgp) where
+module _ (doc : Document) (net : Network) (old new : List Config) (chosen : List Edit) (g : AreEdited doc net old new chosen) (after : Network) (is : IsAfter net chosen after)
+    (lists_are : AreRouteLists new after.route_lists) (bgp : net.protocol ≡ Bgp) where
   abbrev was_keys : List (ℕ × List ℕ)
   was_keys = map route_list_key net.route_lists
 
@@ -131,15 +132,18 @@ module _ (doc : Document) (net : Network) (old new : List Config) (chosen : List
     face_same = ap (λ (x : SessionRow). x.face) sa.same
 
     remote_is : remote_of (lines_of near_now.config) now.peer ≡ Some now.remote
-    remote_is = ap (remote_of (lines_of near_now.config)) peer_same ∙ same_said net chosen near.router near.config near_now.config na.settings has (says_remote s.peer) (no_remote s.peer) ∙ cs.remote ∙ ap Some (sym remote_same)
+    remote_is = ap (remote_of (lines_of near_now.config)) peer_same
+        ∙ same_said net chosen near.router near.config near_now.config na.settings has (says_remote s.peer) (no_remote s.peer) ∙ cs.remote ∙ ap Some (sym remote_same)
 
     down_is : now.down ≡ is_down (lines_of near_now.config) now.peer
-    down_is = sa.down ∙ sym (down_now net g.valid g.small chosen near.router near.config near_now.config na.settings has s row.0 bgp in_net row.1 own cs.down) ∙ ap (is_down (lines_of near_now.config)) (sym peer_same)
+    down_is = sa.down ∙ sym (down_now net g.valid g.small chosen near.router near.config near_now.config na.settings has s row.0 bgp in_net row.1 own cs.down)
+        ∙ ap (is_down (lines_of near_now.config)) (sym peer_same)
 
     filters_old : is_empty (new_prefixes chosen s.face.0) ≡ true → filter_of (lines_of near_now.config) s.peer ≡ filter_of (lines_of near.config) s.peer
     filters_old e = filter_stays net g.valid g.small chosen near.router near.config near_now.config na.settings has s row.0 in_net row.1 own e
 
-    filters_new : is_empty (new_prefixes chosen s.face.0) ≡ false → (name : List ℕ) × IsNewList net chosen near.router (lists.Route s.face) name × (filter_of (lines_of near_now.config) s.peer ≡ Some name)
+    filters_new : is_empty (new_prefixes chosen s.face.0) ≡ false →
+        (name : List ℕ) × IsNewList net chosen near.router (lists.Route s.face) name × (filter_of (lines_of near_now.config) s.peer ≡ Some name)
     filters_new e = filter_is_new net g.valid g.small chosen near.router near.config near_now.config na.settings has s row.0 in_net row.1 own e
 
     bound_is : now.bound ≡ is_some (filter_of (lines_of near_now.config) now.peer)
@@ -166,16 +170,21 @@ module _ (doc : Document) (net : Network) (old new : List Config) (chosen : List
                 key_at route_list_key net.route_lists after.route_lists (edited_route_list chosen) (λ j m. refl) after.route_lists id.0 l (near.router, name) e (λ i. (router_is i, name_is i))
 
         by : (b : Bool) → is_empty (new_prefixes chosen s.face.0) ≡ b → MatchBool (is_empty (new_prefixes chosen s.face.0)) (StaysBound (RouteListMoves net chosen after) s.filter now.filter)
-            (IsSomeAnd now.filter (λ id. IsSomeAnd (slice_get after.route_lists id.0) (IsNewRouteList net chosen s.face))) → IsPlaceAmong keys near.router (filter_of (lines_of near_now.config) s.peer) now.filter
+            (IsSomeAnd now.filter (λ id. IsSomeAnd (slice_get after.route_lists id.0) (IsNewRouteList net chosen s.face))) →
+            IsPlaceAmong keys near.router (filter_of (lines_of near_now.config) s.peer) now.filter
         by true e h =
-            let h' : MatchBool true (StaysBound (RouteListMoves net chosen after) s.filter now.filter) (IsSomeAnd now.filter (λ id. IsSomeAnd (slice_get after.route_lists id.0) (IsNewRouteList net chosen s.face))) =
-            subst (λ (c : Bool). MatchBool c (StaysBound (RouteListMoves net chosen after) s.filter now.filter) (IsSomeAnd now.filter (λ id. IsSomeAnd (slice_get after.route_lists id.0) (IsNewRouteList net chosen s.face)))) e h in
+            let h' : MatchBool true (StaysBound (RouteListMoves net chosen after) s.filter now.filter)
+            (IsSomeAnd now.filter (λ id. IsSomeAnd (slice_get after.route_lists id.0) (IsNewRouteList net chosen s.face))) =
+            subst (λ (c : Bool). MatchBool c (StaysBound (RouteListMoves net chosen after) s.filter now.filter)
+            (IsSomeAnd now.filter (λ id. IsSomeAnd (slice_get after.route_lists id.0) (IsNewRouteList net chosen s.face)))) e h in
             subst (λ (o : Option (List ℕ)). IsPlaceAmong keys near.router o now.filter) (sym (filters_old e))
             (stays_placed route_list_key net.route_lists after.route_lists (edited_route_list chosen) (λ j m. refl) near.router (filter_of (lines_of near.config) s.peer) s.filter now.filter
             (λ name bound there. route_was_there near.router near.config name file.file_at (inr (inr (s.peer, bound))) there) h' cs.filter)
         by false e h =
-            let h' : MatchBool false (StaysBound (RouteListMoves net chosen after) s.filter now.filter) (IsSomeAnd now.filter (λ id. IsSomeAnd (slice_get after.route_lists id.0) (IsNewRouteList net chosen s.face))) =
-            subst (λ (c : Bool). MatchBool c (StaysBound (RouteListMoves net chosen after) s.filter now.filter) (IsSomeAnd now.filter (λ id. IsSomeAnd (slice_get after.route_lists id.0) (IsNewRouteList net chosen s.face)))) e h in
+            let h' : MatchBool false (StaysBound (RouteListMoves net chosen after) s.filter now.filter)
+            (IsSomeAnd now.filter (λ id. IsSomeAnd (slice_get after.route_lists id.0) (IsNewRouteList net chosen s.face))) =
+            subst (λ (c : Bool). MatchBool c (StaysBound (RouteListMoves net chosen after) s.filter now.filter)
+            (IsSomeAnd now.filter (λ id. IsSomeAnd (slice_get after.route_lists id.0) (IsNewRouteList net chosen s.face)))) e h in
             let n = filters_new e in
             subst (λ (o : Option (List ℕ)). IsPlaceAmong keys near.router o now.filter) (sym n.2) (new_place now.filter n.0 n.1 h')
 
@@ -190,7 +199,8 @@ module _ (doc : Document) (net : Network) (old new : List Config) (chosen : List
     }
 
   -- the session of an end of a link before the edits is that of the same end after them
-  session_of_now : (k : ℕ) (s now : SessionRow) → Contains net.sessions s → IsSessionAfter net chosen after k s now → (link : ℕ) (from_a : Bool) → IsSessionOf old net.links was_keys link from_a s → IsSessionOf new after.links keys link from_a now
+  session_of_now : (k : ℕ) (s now : SessionRow) → Contains net.sessions s → IsSessionAfter net chosen after k s now → (link : ℕ) (from_a : Bool) →
+      IsSessionOf old net.links was_keys link from_a s → IsSessionOf new after.links keys link from_a now
   session_of_now k s now in_net sa link from_a o =
       let near = site_now net chosen old new g.settings s.face.0 o.near o.at_near in
       let far = site_now net chosen old new g.settings (head_end o.row from_a).0 o.far o.at_far in
@@ -212,7 +222,8 @@ module _ (doc : Document) (net : Network) (old new : List Config) (chosen : List
     router : was.near.router ≡ o.near.router
 
   -- and the other way round, for a session that the network has
-  session_of_was : (k : ℕ) (s now : SessionRow) → Contains net.sessions s → IsSessionAfter net chosen after k s now → (link : ℕ) (from_a : Bool) (o : IsSessionOf new after.links keys link from_a now) → SessionWas link from_a s now o
+  session_of_was : (k : ℕ) (s now : SessionRow) → Contains net.sessions s → IsSessionAfter net chosen after k s now →
+      (link : ℕ) (from_a : Bool) (o : IsSessionOf new after.links keys link from_a now) → SessionWas link from_a s now o
   session_of_was k s now in_net sa link from_a o =
       let face_same : now.face ≡ s.face = ap (λ (x : SessionRow). x.face) sa.same in
       let at_near : slice_get (sites new) s.face.0 ≡ Some o.near = ap (λ (f : Face). slice_get (sites new) f.0) (sym face_same) ∙ o.at_near in
@@ -259,7 +270,15 @@ module _ (doc : Document) (net : Network) (old new : List Config) (chosen : List
       let far = site_was net chosen old new g.settings (head_end o.row from_a).0 o.far o.at_far in
       let file = site_of old x.face.0 near.0 near.1 in
       let filter = placed_among was_keys near.0.router (filter_of (lines_of near.0.config) x.peer) in
-      let s : SessionRow = record { face = x.face; peer = x.peer; remote = x.remote; down = is_down (lines_of near.0.config) x.peer; bound = is_some (filter_of (lines_of near.0.config) x.peer); filter = filter.0 } in (
+      let s : SessionRow = record {
+        face = x.face;
+        peer = x.peer;
+        remote = x.remote;
+        down = is_down (lines_of near.0.config) x.peer;
+        bound =
+            is_some (filter_of (lines_of near.0.config) x.peer);
+        filter = filter.0;
+      } in (
         s,
         record {
           row = o.row;
@@ -271,7 +290,8 @@ module _ (doc : Document) (net : Network) (old new : List Config) (chosen : List
           at_far = far.1;
           peer = ap (option_map (λ (a : ℕ × ℕ). a.0)) (sym (address_stays far.0.face o.far.face far.2.stays)) ∙ o.peer;
           configured = record {
-            remote = sym (same_said net chosen near.0.router near.0.config o.near.config near.2.settings (g.processes near.0.router near.0.config file.file_at) (says_remote x.peer) (no_remote x.peer)) ∙ o.configured.remote;
+            remote = sym (same_said net chosen near.0.router near.0.config o.near.config near.2.settings (g.processes near.0.router near.0.config file.file_at) (says_remote x.peer)
+                (no_remote x.peer)) ∙ o.configured.remote;
             down = refl;
             bound = refl;
             filter = filter.1;

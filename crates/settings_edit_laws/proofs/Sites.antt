@@ -100,7 +100,8 @@ module _ (net : Network) (chosen : List Edit) where
   -- a file has as many interfaces as before
   pub faces_count : (router : ℕ) (c d : Config) → AreSettingsAfter net chosen router c d → length d.faces ≡ length c.faces
   faces_count router c d after =
-      zip_length (λ (f g : FaceText). bare_face g ≡ face_with net chosen router (bare_face f)) c.faces d.faces (maps_agree bare_face (face_with net chosen router) bare_face c.faces d.faces after.faces)
+      zip_length (λ (f g : FaceText). bare_face g ≡ face_with net chosen router (bare_face f)) c.faces d.faces (maps_agree bare_face
+      (face_with net chosen router) bare_face c.faces d.faces after.faces)
 
   files_rest : (n : ℕ) (c d : Config) (cs ds : List Config) → AreFiles net chosen n (c ∷ cs) (d ∷ ds) → AreFiles net chosen (n + 1) cs ds
   files_rest n c d cs ds f = record {

@@ -3,7 +3,6 @@
 use Rattle.std.proofs.Common.{◌≡◌, ◌≢◌, ℕ, ◌+◌, ◌^◌, ◌<◌, ◌==◌, ◌&&◌, inl, inr, Bool, true, false, cond, Option, Some, None, List, [], ◌∷◌, map, refl, sym, ◌∙◌, ap, subst, arith, IsTrue, find}
 use Rattle.std.specs.Prelude.{Contains, IfSome, IsSomeAnd, MatchBool, is_some, slice_get, option_map}
 use Rattle.std.specs.Option.{option_map_or}
-use Rattle.std.specs.List.{filter_map}
 use Rattle.std.proofs.lemmas.Bool.{eqb-true, false≢true, and_parts, and_from, false_from_ne_true}
 use Rattle.std.proofs.lemmas.Option.{none-some, same_Some}
 use Rattle.arc_base.specs.Addresses.{IsInside, Holds, holds, AreDisjoint, size}
@@ -43,16 +42,16 @@ use Rattle.net_rules.specs.Stops.{IsAble, IsNeeded, targets, session_services, D
 use Rattle.traffic_classes.proofs.Ranges.{range_holds, holds_range, ends_below}
 use Rattle.edit_list.specs.declared.edit_kinds.Edit.{Edit}
 use Rattle.edit_list.specs.declared.edit_kinds.Edit.TheVariants as edits
-use Rattle.edit_list.specs.Changes.{packet_list_change, list_classes, new_classes}
-use Rattle.arc_base.specs.Numbered.{is_empty, if_number}
-use Rattle.edit_list.specs.After.{IsAfter, IsFaceAfter, IsSessionAfter, IsRouterAfter, StaysBound, PacketListMoves, IsNewPacketList, edited_packet_list, with_classes, class_entry, new_packet_entries, any, every_packet}
-use Rattle.edit_list.proofs.NewListFacts.{picked_from}
+use Rattle.edit_list.specs.Changes.{list_classes, new_classes}
+use Rattle.arc_base.specs.Numbered.{is_empty}
+use Rattle.edit_list.specs.After.{IsAfter, IsFaceAfter, IsSessionAfter, IsRouterAfter, StaysBound, PacketListMoves}
+use Rattle.edit_list.specs.After.{IsNewPacketList, edited_packet_list, with_classes, class_entry, new_packet_entries, any, every_packet}
 use Rattle.edit_list.proofs.RowFacts.{row_was}
 use Rattle.network_edit_laws.proofs.Turning.{staying_packets}
 use Rattle.ios_config.specs.declared.settings.Given.{Given}
 use Rattle.settings_edit_laws.proofs.Edited.{AreEdited, face_site, packet_edit_of}
-use Rattle.settings_edit_laws.proofs.NewNames.{numbered}
 use Rattle.settings_edit_laws.proofs.Pairs.{any_of, of_any}
+use Rattle.network_edit_laws.proofs.Changed.{packet_list_in}
 use Rattle.settings_edit_laws.proofs.SessionFacts.{session_there, find_in}
 use Rattle.settings_edit_laws.proofs.Sites.{given_of_value}
 
@@ -112,19 +111,7 @@ needed_small protocol from own p from_low own_low needed =
 
 -- an edit that puts an entry for the class in front of the list
 list_edit_there : (chosen : List Edit) (place : ℕ) (class : Class) → Contains (list_classes chosen place) class → (list : ListId) × Contains chosen (edits.PacketList list class)
-list_edit_there chosen place class there =
-    let p = picked_from (if_number place) (filter_map packet_list_change chosen) class there in
-    let e = picked_from packet_list_change chosen p.0 p.1 in
-    by e.0 p.0 e.1 e.2 (numbered place p.0 class p.2).1
-  where
-    by : (e : Edit) (pair : ℕ × Class) → Contains chosen e → packet_list_change e ≡ Some pair → pair.1 ≡ class → (list : ListId) × Contains chosen (edits.PacketList list class)
-    by (edits.Session face) pair in_c is at = absurd (none-some pair is)
-    by (edits.RouteList list prefix) pair in_c is at = absurd (none-some pair is)
-    by (edits.RouteNew face prefix) pair in_c is at = absurd (none-some pair is)
-    by (edits.PacketNew face c) pair in_c is at = absurd (none-some pair is)
-    by (edits.PacketList list c) pair in_c is at =
-        let same : c ≡ class = ap (λ (q : ℕ × Class). q.1) (same_Some (list.0, c) pair is) ∙ at in
-        (list, subst (λ (d : Class). Contains chosen (edits.PacketList list d)) same in_c)
+list_edit_there chosen place class there = (record { 0 = place }, packet_list_in chosen (record { 0 = place }) class there)
 
 module _ (doc : Document) (net : Network) (old new : List Config) (chosen : List Edit) (g : AreEdited doc net old new chosen) (after : Network) (is : IsAfter net chosen after)
     (one : (other : Network) → AreRows doc new other → other ≡ after) where
@@ -159,13 +146,16 @@ module _ (doc : Document) (net : Network) (old new : List Config) (chosen : List
       of_host host inside valid_host =
           let differ : place.0 ≢ k = λ same. valid_host.0 (subst (λ (i : ℕ). IsLinkEnd net i) (sym same) is_end) in
           elim (g.valid.subnets place.0 k face row place.1 at differ) [
-            | inl linked ↦ let l = of_any (λ (link : LinkRow). EndsAt link place.0 × EndsAt link k) net.links linked in valid_host.0 (any_of (λ (link : LinkRow). EndsAt link place.0) net.links l.0 l.1 l.2.0)
+            | inl linked ↦ let l = of_any (λ (link : LinkRow). EndsAt link place.0 × EndsAt link k) net.links linked in valid_host.0
+                (any_of (λ (link : LinkRow). EndsAt link place.0) net.links l.0 l.1 l.2.0)
             | inr apart ↦ apart_not valid_host.1 valid_host.2 (valid_host.3 a (inside a held)) apart
           ]
 
       by : (o : Option Prefix) → face.host ≡ o → IsSomeAnd o (IsInside p) → ⊥
       by None e lies = lies
-      by (Some host) e lies = of_host host lies (subst (λ (o : Option Prefix). IfSome o (λ q. (¬ IsLinkEnd net place.0) × (s : Prefix) × (face.subnet ≡ Some s) × IsInside q s)) e (g.valid.faces place.0 face place.1).host)
+      by (Some host) e lies =
+          of_host host lies (subst (λ (o : Option Prefix). IfSome o (λ q. (¬ IsLinkEnd net place.0) × (s : Prefix) × (face.subnet ≡ Some s) × IsInside q s)) e
+          (g.valid.faces place.0 face place.1).host)
 
   module _ (arc : Arc) (is_arc : IsArc after arc) (able : IsAble after arc) (stops : StopsPackets after arc.tail arc.head) where
     tail_was : (was : FaceRow) × (slice_get net.faces (tail_face arc).0 ≡ Some was) × IsFaceAfter net chosen after (tail_face arc).0 was arc.tail
@@ -219,7 +209,8 @@ module _ (doc : Document) (net : Network) (old new : List Config) (chosen : List
             let router : far.router.0 ≡ far_was.router.0 = ap (λ (x : FaceRow). x.router.0) f.same in
             let named : Names net was.0 far_was = (
               ap (λ (x : FaceRow). x.addr) (sym f.same) ∙ h.0 ∙ ap (λ (t : SessionRow). Some t.peer) was.2.same,
-              subst (λ (asn : ℕ). IsSomeAnd (slice_get net.routers far_was.router.0) (λ r. asn ≡ r.asn)) remote (subst (λ (k : ℕ). IsSomeAnd (slice_get net.routers k) (λ r. s.remote ≡ r.asn)) router (router_was far.router.0 s.remote h.1)),
+              subst (λ (asn : ℕ). IsSomeAnd (slice_get net.routers far_was.router.0) (λ r. asn ≡ r.asn)) remote
+                  (subst (λ (k : ℕ). IsSomeAnd (slice_get net.routers k) (λ r. s.remote ≡ r.asn)) router (router_was far.router.0 s.remote h.1)),
             ) in
             subst (λ (o : Option SessionRow). IsSomeAnd o (λ t. Names net t far_was)) (sym there) named
 
@@ -255,7 +246,8 @@ module _ (doc : Document) (net : Network) (old new : List Config) (chosen : List
     abbrev DeniesAt : ListId → Type 0
     DeniesAt id = IsSomeAnd (slice_get net.packet_lists id.0) (λ list. Denies net.protocol list.entries stops.from stops.own)
 
-    denies_was : (id now : ListId) → PacketListMoves net chosen after id now → IsSomeAnd (slice_get after.packet_lists now.0) (λ list. Denies after.protocol list.entries stops.from stops.own) → DeniesAt id
+    denies_was : (id now : ListId) → PacketListMoves net chosen after id now →
+        IsSomeAnd (slice_get after.packet_lists now.0) (λ list. Denies after.protocol list.entries stops.from stops.own) → DeniesAt id
     denies_was id now moves denies = by (slice_get net.packet_lists id.0) refl moves
       where
         same_answer : (list : PacketList) (p : Packet) → p.from ≡ stops.from → permits (with_classes list.entries (list_classes chosen id.0)) p ≡ permits list.entries p
@@ -263,15 +255,19 @@ module _ (doc : Document) (net : Network) (old new : List Config) (chosen : List
             let e = list_edit_there chosen id.0 class there in
             of_no_class class (g.fits (edits.PacketList e.0 class) e.1) p source)
 
-        by : (o : Option PacketList) → slice_get net.packet_lists id.0 ≡ o → IsSomeAnd o (λ list. slice_get after.packet_lists now.0 ≡ Some (edited_packet_list chosen id.0 list)) → IsSomeAnd (slice_get net.packet_lists id.0) (λ list. Denies net.protocol list.entries stops.from stops.own)
+        by : (o : Option PacketList) → slice_get net.packet_lists id.0 ≡ o →
+            IsSomeAnd o (λ list. slice_get after.packet_lists now.0 ≡ Some (edited_packet_list chosen id.0 list)) →
+            IsSomeAnd (slice_get net.packet_lists id.0) (λ list. Denies net.protocol list.entries stops.from stops.own)
         by None e h = absurd h
         by (Some list) e h =
-            let now_denies : Denies after.protocol (with_classes list.entries (list_classes chosen id.0)) stops.from stops.own = subst (λ (o : Option PacketList). IsSomeAnd o (λ l. Denies after.protocol l.entries stops.from stops.own)) h denies in
+            let now_denies : Denies after.protocol (with_classes list.entries (list_classes chosen id.0)) stops.from stops.own =
+            subst (λ (o : Option PacketList). IsSomeAnd o (λ l. Denies after.protocol l.entries stops.from stops.own)) h denies in
             let (p, needed, denied) = now_denies in
             subst (λ (o : Option PacketList). IsSomeAnd o (λ l. Denies net.protocol l.entries stops.from stops.own)) (sym e)
             (p, subst (λ (protocol : Protocol). IsNeeded protocol stops.from stops.own p) is.protocol needed, sym (same_answer list p needed.source) ∙ denied)
 
-    new_denies_none : (now : ListId) → IsSomeAnd (slice_get after.packet_lists now.0) (IsNewPacketList net chosen (record { 0 = (head_face arc).0 })) → IsSomeAnd (slice_get after.packet_lists now.0) (λ list. Denies after.protocol list.entries stops.from stops.own) → ⊥
+    new_denies_none : (now : ListId) → IsSomeAnd (slice_get after.packet_lists now.0) (IsNewPacketList net chosen (record { 0 = (head_face arc).0 })) →
+        IsSomeAnd (slice_get after.packet_lists now.0) (λ list. Denies after.protocol list.entries stops.from stops.own) → ⊥
     new_denies_none now made denies = by (slice_get after.packet_lists now.0) made denies
       where
         by : (o : Option PacketList) → IsSomeAnd o (IsNewPacketList net chosen (record { 0 = (head_face arc).0 })) → IsSomeAnd o (λ list. Denies after.protocol list.entries stops.from stops.own) → ⊥
@@ -303,12 +299,14 @@ module _ (doc : Document) (net : Network) (old new : List Config) (chosen : List
             let made : IsSomeAnd arc.head.list_in (λ id. IsSomeAnd (slice_get after.packet_lists id.0) (IsNewPacketList net chosen (record { 0 = (head_face arc).0 }))) =
             subst (λ (c : Bool). MatchBool c (StaysBound (PacketListMoves net chosen after) head_was.0.list_in arc.head.list_in)
             (IsSomeAnd arc.head.list_in (λ id. IsSomeAnd (slice_get after.packet_lists id.0) (IsNewPacketList net chosen (record { 0 = (head_face arc).0 }))))) eb h in
-            absurd (new_denies_none now (subst (λ (o : Option ListId). IsSomeAnd o (λ id. IsSomeAnd (slice_get after.packet_lists id.0) (IsNewPacketList net chosen (record { 0 = (head_face arc).0 })))) en made) denies)
+            absurd (new_denies_none now
+            (subst (λ (o : Option ListId). IsSomeAnd o (λ id. IsSomeAnd (slice_get after.packet_lists id.0) (IsNewPacketList net chosen (record { 0 = (head_face arc).0 })))) en made) denies)
         by (Some now) en denies w ew true eb h =
             let stays : StaysBound (PacketListMoves net chosen after) head_was.0.list_in arc.head.list_in =
             subst (λ (c : Bool). MatchBool c (StaysBound (PacketListMoves net chosen after) head_was.0.list_in arc.head.list_in)
             (IsSomeAnd arc.head.list_in (λ id. IsSomeAnd (slice_get after.packet_lists id.0) (IsNewPacketList net chosen (record { 0 = (head_face arc).0 }))))) eb h in
-            inner w ew (subst (λ (o : Option ListId). StaysBound (PacketListMoves net chosen after) o (Some now)) ew (subst (λ (o : Option ListId). StaysBound (PacketListMoves net chosen after) head_was.0.list_in o) en stays))
+            inner w ew (subst (λ (o : Option ListId). StaysBound (PacketListMoves net chosen after) o (Some now)) ew
+            (subst (λ (o : Option ListId). StaysBound (PacketListMoves net chosen after) head_was.0.list_in o) en stays))
           where
             inner : (w : Option ListId) → head_was.0.list_in ≡ w → StaysBound (PacketListMoves net chosen after) w (Some now) → StopsBefore
             inner None ew h = absurd (none-some now (sym h))
@@ -320,13 +318,15 @@ module _ (doc : Document) (net : Network) (old new : List Config) (chosen : List
       from_is = from_was;
       own = stops.own;
       own_is = own_was;
-      denies = subst (λ (o : Option ListId). IsSomeAnd o (λ id. IsSomeAnd (slice_get net.packet_lists id.0) (λ list. Denies net.protocol list.entries stops.from stops.own))) (sym stops_before.bound) stops_before.denies;
+      denies = subst (λ (o : Option ListId). IsSomeAnd o (λ id. IsSomeAnd (slice_get net.packet_lists id.0) (λ list. Denies net.protocol list.entries stops.from stops.own)))
+          (sym stops_before.bound) stops_before.denies;
     }
 
     refused_before : IsClear (RefusesListStopsSession doc old) → ⊥
     refused_before clear =
         let s = face_site doc net old new chosen g (head_face arc).0 head_was.0 head_was.1 in
-        let line = bound_line s.0 (value s.0.face.list_in) refl (subst (λ (o : Option ListId). IsPlaceAmong (map packet_list_key net.packet_lists) s.0.router (value s.0.face.list_in) o) stops_before.bound s.2.list_in) in
+        let line = bound_line s.0 (value s.0.face.list_in) refl
+        (subst (λ (o : Option ListId). IsPlaceAmong (map packet_list_key net.packet_lists) s.0.router (value s.0.face.list_in) o) stops_before.bound s.2.list_in) in
         clear (record { file = s.0.router + 1; number = line.0.line; kind = kinds.ListStopsSession }) (record {
           net = net;
           rows = g.rows;
@@ -341,11 +341,13 @@ module _ (doc : Document) (net : Network) (old new : List Config) (chosen : List
           told = refl;
         })
       where
-        bound_line : (s : Site) (o : Option (List ℕ)) → value s.face.list_in ≡ o → IsPlaceAmong (map packet_list_key net.packet_lists) s.router o (Some stops_before.id) → (x : Given (List ℕ)) × (s.face.list_in ≡ Some x)
+        bound_line : (s : Site) (o : Option (List ℕ)) → value s.face.list_in ≡ o →
+            IsPlaceAmong (map packet_list_key net.packet_lists) s.router o (Some stops_before.id) → (x : Given (List ℕ)) × (s.face.list_in ≡ Some x)
         bound_line s None e h = absurd h
         bound_line s (Some name) e h = let v = given_of_value s.face.list_in name e in (v.0, v.1)
 
   pub clear_stops : IsClear (RefusesListStopsSession doc old) → IsClear (RefusesListStopsSession doc new)
   clear_stops clear r bad =
       let same = one bad.net bad.rows in
-      refused_before bad.arc (subst (λ (n : Network). IsArc n bad.arc) same bad.is_arc) (subst (λ (n : Network). IsAble n bad.arc) same bad.able) (subst (λ (n : Network). StopsPackets n bad.arc.tail bad.arc.head) same bad.stops) clear
+      refused_before bad.arc (subst (λ (n : Network). IsArc n bad.arc) same bad.is_arc) (subst (λ (n : Network). IsAble n bad.arc) same bad.able)
+      (subst (λ (n : Network). StopsPackets n bad.arc.tail bad.arc.head) same bad.stops) clear

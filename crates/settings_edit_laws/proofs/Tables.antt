@@ -55,7 +55,8 @@ plain_is_list false name l = refl
 pub plain_named : (packet : Bool) (config : Config) (name : List ℕ) → find (is_list packet name) (map plain_list config.lists) ≡ option_map plain_list (list_named packet config name)
 plain_named packet config name = find_mapped plain_list (is_list packet name) (is_list packet name) (plain_is_list packet name) config.lists
 
-module _ (net : Network) (valid : IsValid net) (small : IsCountable net) (chosen : List Edit) (router : ℕ) (old new : Config) (after : AreSettingsAfter net chosen router old new) (packet : Bool) (name : List ℕ) where
+module _ (net : Network) (valid : IsValid net) (small : IsCountable net) (chosen : List Edit) (router : ℕ) (old new : Config) (after : AreSettingsAfter net chosen router old new)
+    (packet : Bool) (name : List ℕ) where
   with_is_list : (l : ListText) → is_list packet name (list_with net chosen router l) ≡ is_list packet name l
   with_is_list l = by packet
     where
@@ -69,7 +70,8 @@ module _ (net : Network) (valid : IsValid net) (small : IsCountable net) (chosen
   abbrev test : ListText → Bool
   test = is_list packet name
 
-  found_new : option_map plain_list (list_named packet new name) ≡ option_or (option_map edited (find test after.front)) (option_or (find test (new_list_texts net chosen router)) (option_map edited (find test after.back)))
+  found_new : option_map plain_list (list_named packet new name) ≡ option_or (option_map edited (find test after.front))
+      (option_or (find test (new_list_texts net chosen router)) (option_map edited (find test after.back)))
   found_new =
       sym (plain_named packet new name) ∙ ap (find test) after.new_lists ∙ find-append test (map edited after.front) (new_list_texts net chosen router ++ map edited after.back) ∙
       ap (λ o. option_or o (find test (new_list_texts net chosen router ++ map edited after.back))) (find_mapped edited test test with_is_list after.front) ∙
@@ -86,7 +88,8 @@ module _ (net : Network) (valid : IsValid net) (small : IsCountable net) (chosen
   -- where no new list has the name, the list is the old one, edited
   pub old_named : find test (new_list_texts net chosen router) ≡ None → option_map plain_list (list_named packet new name) ≡ option_map edited (option_map plain_list (list_named packet old name))
   old_named none =
-      found_new ∙ ap (λ o. option_or (option_map edited (find test after.front)) (option_or o (option_map edited (find test after.back)))) none ∙ mapped_or (find test after.front) (find test after.back) ∙
+      found_new ∙ ap (λ o. option_or (option_map edited (find test after.front)) (option_or o (option_map edited (find test after.back)))) none ∙ mapped_or
+      (find test after.front) (find test after.back) ∙
       ap (option_map edited) (sym found_old)
 
   none_or : (a b : Option ListText) → option_or a b ≡ None → (a ≡ None) × (b ≡ None)
@@ -116,14 +119,17 @@ module _ (net : Network) (valid : IsValid net) (small : IsCountable net) (chosen
       let same : r.0.1 ≡ name = ap (λ (l : ListText). l.name) r.2 ∙ is_name text pass in
       none r.0.0 (subst (λ (n : List ℕ). IsNewList net chosen router r.0.0 n) same (new_of_named net valid small chosen router r.0 r.1)))
 
-  pub new_text : (list : NewList) → IsNewList net chosen router list name → is_packet_kind (new_list_kind list) ≡ packet → find test (new_list_texts net chosen router) ≡ Some (new_list_text chosen name list)
+  pub new_text : (list : NewList) → IsNewList net chosen router list name → is_packet_kind (new_list_kind list) ≡ packet →
+      find test (new_list_texts net chosen router) ≡ Some (new_list_text chosen name list)
   new_text list made kind =
-      find_one test (new_list_texts net chosen router) (new_list_text chosen name list) (Contains-map text_of (named_lists net chosen router) (list, name) (named_of_new net valid small chosen router list name made))
+      find_one test (new_list_texts net chosen router) (new_list_text chosen name list) (Contains-map text_of (named_lists net chosen router) (list, name)
+      (named_of_new net valid small chosen router list name made))
       (and_from (bytes_eq name name) (is_of_kind packet (new_list_text chosen name list)) ((bytes_eq-Decides name name).1 refl) (of_kind packet kind))
       (λ text there pass.
       let r = from_map text_of (named_lists net chosen router) text there in
       let same : r.0.1 ≡ name = ap (λ (l : ListText). l.name) r.2 ∙ is_name text pass in
-      let one : r.0.0 ≡ list = one_list net valid small chosen router r.0.0 list name (subst (λ (n : List ℕ). IsNewList net chosen router r.0.0 n) same (new_of_named net valid small chosen router r.0 r.1)) made in
+      let one : r.0.0 ≡ list = one_list net valid small chosen router r.0.0 list name
+      (subst (λ (n : List ℕ). IsNewList net chosen router r.0.0 n) same (new_of_named net valid small chosen router r.0 r.1)) made in
       sym r.2 ∙ ap (λ (l : NewList × List ℕ). text_of l) (λ i. (one i, same i)))
     where
       of_kind : (b : Bool) → is_packet_kind (new_list_kind list) ≡ b → is_of_kind b (new_list_text chosen name list) ≡ true

@@ -17,7 +17,8 @@ use Rattle.ios_config.specs.declared.settings.ListKind.TheVariants as kinds
 use Rattle.ios_config.specs.declared.settings.ListForm.TheVariants as forms
 use Rattle.ios_config.specs.declared.settings.ListText.{ListText}
 use Rattle.ios_words.specs.declared.commands.Command.{Command}
-use Rattle.net_rules.specs.Lists.{is_packet_kind, is_extended_kind, list_named, if_defined, packet_entry, packet_entries, route_entry, route_entries, IsBoundPacketList, IsBoundRouteList, IsListName, IsPacketListRow, IsRouteListRow}
+use Rattle.net_rules.specs.Lists.{is_packet_kind, is_extended_kind, list_named, if_defined, packet_entry, packet_entries}
+use Rattle.net_rules.specs.Lists.{route_entry, route_entries, IsBoundPacketList, IsBoundRouteList, IsListName, IsPacketListRow, IsRouteListRow}
 use Rattle.edit_list.specs.declared.edit_kinds.Edit.{Edit}
 use Rattle.edit_list.specs.declared.edit_kinds.Edit.TheVariants as edits
 use Rattle.edit_list.specs.Changes.{packet_list_change, route_list_change, new_classes, new_prefixes}
@@ -44,7 +45,8 @@ pub record TextsOfKind (net : Network) (chosen : List Edit) (K : ListsOfKind net
   pub Thing : Type 0
   pub change : Edit → Option (ℕ × Thing)
   pub thing_for : ℕ → List ℕ → Edit → Option Thing
-  pub for_is : (router : ℕ) (name : List ℕ) (e : Edit) → thing_for router name e ≡ option_and_then (λ (c : ℕ × Thing). option_and_then (λ (l : K.Row). if_own_list router name (K.router l) (K.name l) c.1) (slice_get K.lists c.0)) (change e)
+  pub for_is : (router : ℕ) (name : List ℕ) (e : Edit) →
+      thing_for router name e ≡ option_and_then (λ (c : ℕ × Thing). option_and_then (λ (l : K.Row). if_own_list router name (K.router l) (K.name l) c.1) (slice_get K.lists c.0)) (change e)
   pub opposite : List Entry → Thing → Entry
   pub edited_is : (place router : ℕ) (name : List ℕ) (kind : ListKind) (entries : List Entry) →
       K.edited place (made router name kind entries) ≡ made router name kind (map (opposite entries) (of_number place (filter_map change chosen)) ++ entries)
@@ -66,12 +68,14 @@ pub record TextsOfKind (net : Network) (chosen : List Edit) (K : ListsOfKind net
   pub bound_name : (c : Config) (name : List ℕ) → IsBound c name → IsListName c name
   pub IsRow : List Config → K.Row → Type 0
   pub to_row : (configs : List Config) (row : K.Row) (c : Config) → slice_get configs (K.router row) ≡ Some c → IsBound c (K.name row) →
-      option_map (λ (l : ListText). made (K.router row) (K.name row) l.kind (filter_map (λ (g : Given Command). entry g.value) l.entries)) (if_defined (list_named packet c (K.name row))) ≡ Some row → IsRow configs row
+      option_map (λ (l : ListText). made (K.router row) (K.name row) l.kind (filter_map (λ (g : Given Command). entry g.value) l.entries))
+      (if_defined (list_named packet c (K.name row))) ≡ Some row → IsRow configs row
   pub from_row : (configs : List Config) (row : K.Row) → IsRow configs row → (c : Config) × (slice_get configs (K.router row) ≡ Some c) × IsBound c (K.name row) ×
       (option_map (λ (l : ListText). made (K.router row) (K.name row) l.kind (filter_map (λ (g : Given Command). entry g.value) l.entries)) (if_defined (list_named packet c (K.name row))) ≡ Some row)
 
 module _ (net : Network) (chosen : List Edit) where
-  pub class_for_is : (router : ℕ) (name : List ℕ) (e : Edit) → class_for net router name e ≡ option_and_then (λ (c : ℕ × Class). option_and_then (λ l. if_own_list router name l.router.0 l.name c.1) (slice_get net.packet_lists c.0)) (packet_list_change e)
+  pub class_for_is : (router : ℕ) (name : List ℕ) (e : Edit) →
+      class_for net router name e ≡ option_and_then (λ (c : ℕ × Class). option_and_then (λ l. if_own_list router name l.router.0 l.name c.1) (slice_get net.packet_lists c.0)) (packet_list_change e)
   class_for_is router name (edits.PacketList list class) = refl
   class_for_is router name (edits.Session face) = refl
   class_for_is router name (edits.RouteList list prefix) = refl
@@ -117,7 +121,8 @@ module _ (net : Network) (chosen : List Edit) where
     from_row = λ configs row r. (r.config, r.at_router, r.bound, r.defined);
   }
 
-  pub prefix_for_is : (router : ℕ) (name : List ℕ) (e : Edit) → prefix_for net router name e ≡ option_and_then (λ (c : ℕ × Prefix). option_and_then (λ l. if_own_list router name l.router.0 l.name c.1) (slice_get net.route_lists c.0)) (route_list_change e)
+  pub prefix_for_is : (router : ℕ) (name : List ℕ) (e : Edit) →
+      prefix_for net router name e ≡ option_and_then (λ (c : ℕ × Prefix). option_and_then (λ l. if_own_list router name l.router.0 l.name c.1) (slice_get net.route_lists c.0)) (route_list_change e)
   prefix_for_is router name (edits.RouteList list prefix) = refl
   prefix_for_is router name (edits.Session face) = refl
   prefix_for_is router name (edits.PacketList list class) = refl

@@ -52,4 +52,5 @@ module _ (net : Network) (router : ℕ) where
   pub turned_lines : (chosen : List Edit) → session_commands net chosen router ≡ filter_map (turning_line net router) chosen
   turned_lines chosen =
       let of_router : Edit → Option ℕ = λ edit. option_and_then (if_number router) (turned_face net edit) in
-      ap (filter_map (session_command net)) (picked_twice (if_number router) (turned_face net) of_router (λ edit. refl) chosen) ∙ picked_twice (session_command net) of_router (turning_line net router) same_line chosen
+      ap (filter_map (session_command net)) (picked_twice (if_number router) (turned_face net) of_router (λ edit. refl) chosen)
+      ∙ picked_twice (session_command net) of_router (turning_line net router) same_line chosen

@@ -56,7 +56,8 @@ module _ (doc : Document) (files : List (List ℕ)) (net : Network) (is : IsNetw
       let said = AllZip-left Says files is.configs is.said s.0.router s.0.config file.file_at in
       subst (λ (n : List ℕ). IsTrue (is_face_name n)) (sym s.2.name) (face_tested said.0 said.2.lines s.0.config said.2.is_config s.0.face file.listed)
 
-  session_of : (s : SessionRow) → (p : Protocol) (ss : List SessionRow) → AreSessions p is.configs net.links (map route_list_key net.route_lists) ss → Contains ss s → IsSession is.configs net.links (map route_list_key net.route_lists) s
+  session_of : (s : SessionRow) → (p : Protocol) (ss : List SessionRow) → AreSessions p is.configs net.links (map route_list_key net.route_lists) ss →
+      Contains ss s → IsSession is.configs net.links (map route_list_key net.route_lists) s
   session_of s Ospf ss none there = absurd (Contains-none s (subst (λ (l : List SessionRow). Contains l s) none there))
   session_of s Bgp ss are there = (are.just s).0 there
 
@@ -64,7 +65,8 @@ module _ (doc : Document) (files : List (List ℕ)) (net : Network) (is : IsNetw
   peers_written s there =
       let o = (session_of s net.protocol net.sessions is.rows.sessions there) in
       let so = o.session_of in
-      let row = AllZip-right (IsFaceRow net.protocol (ends_of doc.links) (map packet_list_key net.packet_lists)) (sites is.configs) net.faces is.rows.base.faces (head_end so.row o.from_a).0 so.far so.at_far in
+      let row = AllZip-right (IsFaceRow net.protocol (ends_of doc.links) (map packet_list_key net.packet_lists)) (sites is.configs) net.faces is.rows.base.faces
+      (head_end so.row o.from_a).0 so.far so.at_far in
       by (address_of so.far.face) so.peer row.0.subnet row.2.subnet
     where
       by : (a : Option (ℕ × ℕ)) → option_map (λ (x : ℕ × ℕ). x.0) a ≡ Some s.peer → (subnet : Option Prefix) → IsSubnet a subnet → s.peer < 2 ^ 32

@@ -9,7 +9,8 @@ pub host_network-requires : goal.host_network-requires
 host_network-requires c =
     let P : Policy → Type 0 = λ p. HasHost c.args.net.now p.to in
     subst P (sym c.policy-item.is)
-    (All-get_or P c.slice-policy-items.result.now c.loop-policy.policy-index c.policy-item.result c.loop-policy-test.true (subst (λ (l : List Policy). All P l) (sym c.slice-policy-items.ensures.items) c.requires.hosts))
+    (All-get_or P c.slice-policy-items.result.now c.loop-policy.policy-index c.policy-item.result c.loop-policy-test.true
+    (subst (λ (l : List Policy). All P l) (sym c.slice-policy-items.ensures.items) c.requires.hosts))
 
 pub loop-policy-preserved : goal.loop-policy-preserved
 loop-policy-preserved c = record {

@@ -18,13 +18,19 @@ destinations-requires c = record { hosts = have_hosts c.args.net.now c.args.doc.
 
 pub overflow_mul-count : goal.overflow_mul-count
 overflow_mul-count c =
-    omega (arith, small_product c.len-2.result c.len-3.result (2 ^ 33) 256 (omega (arith, c.len-2.ensures, c.in_ok-routes.routes.ok.0, c.in_ok-routes.ensures.few)) (omega (arith, c.len-3.ensures, c.in_ok-destinations.destinations.ok.0, c.in_ok-destinations.ensures.few, c.requires.few)))
+    omega (
+      arith,
+      small_product c.len-2.result c.len-3.result (2 ^ 33) 256
+          (omega (arith, c.len-2.ensures, c.in_ok-routes.routes.ok.0, c.in_ok-routes.ensures.few))
+          (omega (arith, c.len-3.ensures, c.in_ok-destinations.destinations.ok.0, c.in_ok-destinations.ensures.few, c.requires.few)),
+    )
 
 pub overflow_add-count : goal.overflow_add-count
 overflow_add-count c =
     omega (
       arith,
-      small_product c.len-2.result c.len-3.result (2 ^ 33) 256 (omega (arith, c.len-2.ensures, c.in_ok-routes.routes.ok.0, c.in_ok-routes.ensures.few)) (omega (arith, c.len-3.ensures, c.in_ok-destinations.destinations.ok.0, c.in_ok-destinations.ensures.few, c.requires.few)),
+      small_product c.len-2.result c.len-3.result (2 ^ 33) 256 (omega (arith, c.len-2.ensures, c.in_ok-routes.routes.ok.0, c.in_ok-routes.ensures.few))
+          (omega (arith, c.len-3.ensures, c.in_ok-destinations.destinations.ok.0, c.in_ok-destinations.ensures.few, c.requires.few)),
       c.len.ensures,
       c.in_ok-list.list.small,
     )
@@ -41,16 +47,19 @@ overflow_mul-count-2 c =
     omega (
       arith,
       small_product c.len-4.result c.len-5.result (2 ^ 33) 4096 (omega (arith, c.len-4.ensures, c.in_ok-packets.packets.ok.0, c.in_ok-packets.ensures.few))
-          (few_written c.in_ok-classes.classes c.slice.result.now c.in_ok-writable.writable.items c.len-5.result (c.len-5.ensures ∙ c.in_ok-writable.writable.ok.0) c.in_ok-writable.ensures c.slice.ensures.items c.in_ok-classes.ensures.few),
+          (few_written c.in_ok-classes.classes c.slice.result.now c.in_ok-writable.writable.items c.len-5.result
+          (c.len-5.ensures ∙ c.in_ok-writable.writable.ok.0) c.in_ok-writable.ensures c.slice.ensures.items c.in_ok-classes.ensures.few),
     )
 
 pub overflow_add-count-2 : goal.overflow_add-count-2
 overflow_add-count-2 c =
     omega (
       arith,
-      small_product c.len-2.result c.len-3.result (2 ^ 33) 256 (omega (arith, c.len-2.ensures, c.in_ok-routes.routes.ok.0, c.in_ok-routes.ensures.few)) (omega (arith, c.len-3.ensures, c.in_ok-destinations.destinations.ok.0, c.in_ok-destinations.ensures.few, c.requires.few)),
+      small_product c.len-2.result c.len-3.result (2 ^ 33) 256 (omega (arith, c.len-2.ensures, c.in_ok-routes.routes.ok.0, c.in_ok-routes.ensures.few))
+          (omega (arith, c.len-3.ensures, c.in_ok-destinations.destinations.ok.0, c.in_ok-destinations.ensures.few, c.requires.few)),
       small_product c.len-4.result c.len-5.result (2 ^ 33) 4096 (omega (arith, c.len-4.ensures, c.in_ok-packets.packets.ok.0, c.in_ok-packets.ensures.few))
-          (few_written c.in_ok-classes.classes c.slice.result.now c.in_ok-writable.writable.items c.len-5.result (c.len-5.ensures ∙ c.in_ok-writable.writable.ok.0) c.in_ok-writable.ensures c.slice.ensures.items c.in_ok-classes.ensures.few),
+          (few_written c.in_ok-classes.classes c.slice.result.now c.in_ok-writable.writable.items c.len-5.result
+          (c.len-5.ensures ∙ c.in_ok-writable.writable.ok.0) c.in_ok-writable.ensures c.slice.ensures.items c.in_ok-classes.ensures.few),
       c.len.ensures,
       c.in_ok-list.list.small,
     )
@@ -70,7 +79,8 @@ returns-then-count-gt-EDIT_LIMIT-clause-limit c =
         are = record { destinations = destinations; classes = classes; destinations_are = c.in_ok-destinations.ensures.are; classes_are = c.in_ok-classes.ensures.classes; all = refl };
         counted =
             counted_all net destinations classes c.len.result c.len-2.result c.len-3.result c.len-4.result c.len-5.result (c.len.ensures ∙ c.in_ok-list.list.ok.0 ∙ ap length c.in_ok-list.ensures)
-            (c.len-2.ensures ∙ c.in_ok-routes.routes.ok.0 ∙ ap length c.in_ok-routes.ensures.sites) (c.len-3.ensures ∙ c.in_ok-destinations.destinations.ok.0) (c.len-4.ensures ∙ c.in_ok-packets.packets.ok.0 ∙ ap length c.in_ok-packets.ensures.sites)
+            (c.len-2.ensures ∙ c.in_ok-routes.routes.ok.0 ∙ ap length c.in_ok-routes.ensures.sites) (c.len-3.ensures ∙ c.in_ok-destinations.destinations.ok.0)
+            (c.len-4.ensures ∙ c.in_ok-packets.packets.ok.0 ∙ ap length c.in_ok-packets.ensures.sites)
             (written classes c.slice.result.now c.in_ok-writable.writable.items c.len-5.result (c.len-5.ensures ∙ c.in_ok-writable.writable.ok.0) c.in_ok-writable.ensures c.slice.ensures.items);
       },
       c.if-count-gt-EDIT_LIMIT.true,
@@ -104,9 +114,12 @@ returns-clause-few c =
     omega (
       arith,
       ap length (is_all c),
-      counted_all c.args.net.now c.in_ok-destinations.destinations.items c.in_ok-classes.classes c.len.result c.len-2.result c.len-3.result c.len-4.result c.len-5.result (c.len.ensures ∙ c.in_ok-list.list.ok.0 ∙ ap length c.in_ok-list.ensures)
-          (c.len-2.ensures ∙ c.in_ok-routes.routes.ok.0 ∙ ap length c.in_ok-routes.ensures.sites) (c.len-3.ensures ∙ c.in_ok-destinations.destinations.ok.0) (c.len-4.ensures ∙ c.in_ok-packets.packets.ok.0 ∙ ap length c.in_ok-packets.ensures.sites)
-          (written c.in_ok-classes.classes c.slice.result.now c.in_ok-writable.writable.items c.len-5.result (c.len-5.ensures ∙ c.in_ok-writable.writable.ok.0) c.in_ok-writable.ensures c.slice.ensures.items),
+      counted_all c.args.net.now c.in_ok-destinations.destinations.items c.in_ok-classes.classes c.len.result c.len-2.result c.len-3.result c.len-4.result c.len-5.result
+          (c.len.ensures ∙ c.in_ok-list.list.ok.0 ∙ ap length c.in_ok-list.ensures)
+          (c.len-2.ensures ∙ c.in_ok-routes.routes.ok.0 ∙ ap length c.in_ok-routes.ensures.sites) (c.len-3.ensures ∙ c.in_ok-destinations.destinations.ok.0)
+          (c.len-4.ensures ∙ c.in_ok-packets.packets.ok.0 ∙ ap length c.in_ok-packets.ensures.sites)
+          (written c.in_ok-classes.classes c.slice.result.now c.in_ok-writable.writable.items c.len-5.result
+          (c.len-5.ensures ∙ c.in_ok-writable.writable.ok.0) c.in_ok-writable.ensures c.slice.ensures.items),
       c.if-count-gt-EDIT_LIMIT.false,
     )
 

@@ -23,5 +23,6 @@ pub returns : goal.returns
 returns c =
     let edits : List Edit = c.slice-edit-items.result.now in
     let flags : List Bool = c.args.chosen.now in
-    price_all c.args.doc.now.weights edits flags c.loop-place.place c.loop-place.sum c.loop-place-test.false (c.requires ∙ ap length (sym c.slice-edit-items.ensures.items)) c.loop-place.invariant.sum ∙
+    price_all c.args.doc.now.weights edits flags c.loop-place.place c.loop-place.sum c.loop-place-test.false
+    (c.requires ∙ ap length (sym c.slice-edit-items.ensures.items)) c.loop-place.invariant.sum ∙
     ap (λ l. price_of c.args.doc.now.weights (chosen_of l flags)) c.slice-edit-items.ensures.items

@@ -9,13 +9,18 @@ use Rattle.edit_list.proofs.sites.route_sites.Goals as goal
 pub returns-clause-sites : goal.returns-clause-sites
 returns-clause-sites c =
     let things : List (ℕ × Site) = c.deref-2.result.now in
-    let joined : things ≡ c.in_ok-sites.sites.items ++ c.in_ok-neighbors.neighbors.items = c.deref-2.ensures.value ∙ c.in_ok-append.ensures ∙ ap (λ l. c.in_ok-sites.sites.items ++ l) c.deref.ensures.value in
+    let joined : things ≡ c.in_ok-sites.sites.items ++ c.in_ok-neighbors.neighbors.items =
+    c.deref-2.ensures.value ∙ c.in_ok-append.ensures ∙ ap (λ l. c.in_ok-sites.sites.items ++ l) c.deref.ensures.value in
     IfOk-weaker c.by_number.result (λ (sites : Vec Site Global). sites.items ≡ by_number c.len.result things) (λ (sites : Vec Site Global). sites.items ≡ route_sites c.args.net.now)
-    (λ sites are. route_sites_are c.args.net.now things c.in_ok-sites.sites.items c.in_ok-neighbors.neighbors.items sites.items c.slice.result.now c.slice-2.result.now c.slice.ensures.items c.slice-2.ensures.items c.in_ok-sites.ensures c.in_ok-neighbors.ensures joined c.len.result c.len.ensures are) c.by_number.ensures
+    (λ sites are. route_sites_are c.args.net.now things c.in_ok-sites.sites.items c.in_ok-neighbors.neighbors.items sites.items c.slice.result.now c.slice-2.result.now
+    c.slice.ensures.items c.slice-2.ensures.items c.in_ok-sites.ensures c.in_ok-neighbors.ensures joined c.len.result c.len.ensures are) c.by_number.ensures
 
 pub returns-clause-few : goal.returns-clause-few
 returns-clause-few c =
     let things : List (ℕ × Site) = c.deref-2.result.now in
-    let joined : things ≡ c.in_ok-sites.sites.items ++ c.in_ok-neighbors.neighbors.items = c.deref-2.ensures.value ∙ c.in_ok-append.ensures ∙ ap (λ l. c.in_ok-sites.sites.items ++ l) c.deref.ensures.value in
+    let joined : things ≡ c.in_ok-sites.sites.items ++ c.in_ok-neighbors.neighbors.items =
+    c.deref-2.ensures.value ∙ c.in_ok-append.ensures ∙ ap (λ l. c.in_ok-sites.sites.items ++ l) c.deref.ensures.value in
     IfOk-weaker c.by_number.result (λ (sites : Vec Site Global). sites.items ≡ by_number c.len.result things) (λ (sites : Vec Site Global). length sites.items < 2 ^ 33)
-    (λ sites are. few_route_sites c.args.net.now things c.in_ok-sites.sites.items c.in_ok-neighbors.neighbors.items sites.items c.slice.result.now c.slice-2.result.now (omega (arith, ap length c.slice.ensures.items, c.slice.ensures.limit)) (omega (arith, ap length c.slice-2.ensures.items, c.slice-2.ensures.limit)) c.in_ok-sites.ensures c.in_ok-neighbors.ensures joined c.len.result are) c.by_number.ensures
+    (λ sites are. few_route_sites c.args.net.now things c.in_ok-sites.sites.items c.in_ok-neighbors.neighbors.items sites.items c.slice.result.now c.slice-2.result.now
+    (omega (arith, ap length c.slice.ensures.items, c.slice.ensures.limit))
+    (omega (arith, ap length c.slice-2.ensures.items, c.slice-2.ensures.limit)) c.in_ok-sites.ensures c.in_ok-neighbors.ensures joined c.len.result are) c.by_number.ensures

@@ -11,4 +11,5 @@ returns-clause-count c =
     let counted : c.from.result + c.args.count ≡ length c.args.names.now + c.args.count = omega (arith, c.from.ensures, c.len.ensures) in
     let small : length c.args.names.now + c.args.count < 2 ^ 63 = omega (arith, c.requires, c.len.ensures, c.len.type_inv) in
     IfOk-weaker c.first_free.result (λ (l : List (List ℕ)). l ≡ free c.deref.result.now) (λ (l : List (List ℕ)). length l ≡ c.args.count)
-    (λ l e. ap length (e ∙ ap free (c.deref.ensures.value ∙ c.in_ok-candidates.ensures ∙ ap (λ n. map new_name (range_with_len 1 n)) counted)) ∙ free_names_found c.args.names.now c.args.count small) c.first_free.ensures
+    (λ l e. ap length (e ∙ ap free (c.deref.ensures.value ∙ c.in_ok-candidates.ensures ∙ ap (λ n. map new_name (range_with_len 1 n)) counted))
+    ∙ free_names_found c.args.names.now c.args.count small) c.first_free.ensures

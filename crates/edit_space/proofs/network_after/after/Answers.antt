@@ -33,15 +33,15 @@ routers_after-requires c =
     let net = c.args.net.now in
     subst (λ (l : List (List (List ℕ))). IsTableOf (length net.routers) (new_names_of net c.in_ok-changes.changes.edits.items) l) (sym c.deref-3.ensures.value) c.in_ok-names.ensures.new_names.told
 
-pub packet_lists_after-requires-clause-within : goal.packet_lists_after-requires-clause-within
-packet_lists_after-requires-clause-within c =
+pub lists_after-requires-clause-within : goal.lists_after-requires-clause-within
+lists_after-requires-clause-within c =
     let net = c.args.net.now in
     let p = in_place (c.in_ok-packets.ensures ∙ ap (packet_keys net) c.deref.ensures.value) c.in_ok-packets-2.ensures in
     subst (λ (l : List Keyed). All (λ (x : Keyed). IsWithin (length net.packet_lists) (length net.faces) x.site) l) (sym c.slice-2.ensures.items)
     (all_within (packets net c.in_ok-changes.changes.edits.items c.requires.valid) c.requires.valid c.in_ok-names.ensures c.in_ok-packets-2.packets p.order p.same)
 
-pub route_lists_after-requires-clause-within : goal.route_lists_after-requires-clause-within
-route_lists_after-requires-clause-within c =
+pub lists_after-requires-2-clause-within : goal.lists_after-requires-2-clause-within
+lists_after-requires-2-clause-within c =
     let net = c.args.net.now in
     let r = in_place (c.in_ok-routes.ensures ∙ ap (route_keys net) c.deref-2.ensures.value) c.in_ok-routes-2.ensures in
     subst (λ (l : List Keyed). All (λ (x : Keyed). IsWithin (length net.route_lists) (length net.faces) x.site) l) (sym c.slice-3.ensures.items)
@@ -51,13 +51,26 @@ pub returns : goal.returns
 returns c =
     let net = c.args.net.now in
     let chosen = c.in_ok-changes.changes.edits.items in
-    let after : Network = record { protocol = net.protocol; routers = c.in_ok-routers_after.field-0; faces = c.in_ok-faces_after.field-0; sessions = c.in_ok-sessions_after.field-0; links = c.in_ok-same_links.field-0; packet_lists = c.in_ok-packet_lists_after.field-0; route_lists = c.in_ok-route_lists_after.field-0 } in
-    let all : IsAfter net chosen after × IsValid after = is_whole net c.requires.valid chosen c.in_ok-names.names.items c.in_ok-names.named.items c.in_ok-names.ensures c.in_ok-packets-2.packets c.in_ok-routes-2.routes c.in_ok-packets-2.packet_places c.in_ok-routes-2.route_places
-    (in_place (c.in_ok-packets.ensures ∙ ap (packet_keys net) c.deref.ensures.value) c.in_ok-packets-2.ensures) (in_place (c.in_ok-routes.ensures ∙ ap (route_keys net) c.deref-2.ensures.value) c.in_ok-routes-2.ensures)
-    after refl c.in_ok-same_links.ensures c.in_ok-routers_after.ensures c.in_ok-faces_after.ensures c.in_ok-sessions_after.ensures
-    (subst (λ (l : List Keyed). EachRow (λ place. IsPacketListFor net chosen) l c.in_ok-packet_lists_after.field-0) c.slice-2.ensures.items c.in_ok-packet_lists_after.ensures)
-    (subst (λ (l : List Keyed). EachRow (λ place. IsRouteListFor net chosen) l c.in_ok-route_lists_after.field-0) c.slice-3.ensures.items c.in_ok-route_lists_after.ensures) in
+    let after : Network =
     record {
-      after = subst (λ (l : List Edit). IsAfter net l after) (c.in_ok-changes.ensures.edits ∙ c.in_ok-chosen_edits.ensures ∙ ap (λ (l : List Edit). chosen_of l c.args.chosen.now) c.slice.ensures.items) all.0;
+      protocol = net.protocol;
+      routers = c.in_ok-routers_after.field-0;
+      faces = c.in_ok-faces_after.field-0;
+      sessions = c.in_ok-sessions_after.field-0;
+      links =
+          c.in_ok-same_links.field-0;
+      packet_lists = c.in_ok-lists_after.field-0;
+      route_lists = c.in_ok-lists_after-2.field-0;
+    } in
+    let all : IsAfter net chosen after × IsValid after = is_whole net c.requires.valid chosen c.in_ok-names.names.items c.in_ok-names.named.items c.in_ok-names.ensures
+    c.in_ok-packets-2.packets c.in_ok-routes-2.routes c.in_ok-packets-2.packet_places c.in_ok-routes-2.route_places
+    (in_place (c.in_ok-packets.ensures ∙ ap (packet_keys net) c.deref.ensures.value) c.in_ok-packets-2.ensures)
+    (in_place (c.in_ok-routes.ensures ∙ ap (route_keys net) c.deref-2.ensures.value) c.in_ok-routes-2.ensures)
+    after refl c.in_ok-same_links.ensures c.in_ok-routers_after.ensures c.in_ok-faces_after.ensures c.in_ok-sessions_after.ensures
+    (subst (λ (l : List Keyed). EachRow (λ place. IsPacketListFor net chosen) l c.in_ok-lists_after.field-0) c.slice-2.ensures.items c.in_ok-lists_after.ensures)
+    (subst (λ (l : List Keyed). EachRow (λ place. IsRouteListFor net chosen) l c.in_ok-lists_after-2.field-0) c.slice-3.ensures.items c.in_ok-lists_after-2.ensures) in
+    record {
+      after = subst (λ (l : List Edit). IsAfter net l after) (c.in_ok-changes.ensures.edits ∙ c.in_ok-chosen_edits.ensures
+          ∙ ap (λ (l : List Edit). chosen_of l c.args.chosen.now) c.slice.ensures.items) all.0;
       valid = all.1;
     }

@@ -31,10 +31,13 @@ loop-router-preserved c =
     record {
       used = used_more (length c.args.net.now.routers) lists i list c.loop-router.used.items c.take_name.new.used.items within is low c.loop-router.invariant.used c.in_ok-name.ensures.used;
       named =
-          rows_more (λ (place : ℕ). IsNamed lists c.args.names.now) lists i list c.loop-router.named.items c.push.new.self.items (record { router = list.0; list = list.1; name = c.in_ok-name.name }) within is
-          (is_named c.args.net.now lists c.args.names.now i list c.loop-router.used.items c.in_ok-name.name (record { router = list.0; list = list.1; name = c.in_ok-name.name }) within is low c.loop-router.invariant.used
+          rows_more (λ (place : ℕ). IsNamed lists c.args.names.now) lists i list c.loop-router.named.items c.push.new.self.items
+          (record { router = list.0; list = list.1; name = c.in_ok-name.name }) within is
+          (is_named c.args.net.now lists c.args.names.now i list c.loop-router.used.items c.in_ok-name.name
+          (record { router = list.0; list = list.1; name = c.in_ok-name.name }) within is low c.loop-router.invariant.used
           c.in_ok-name.ensures.name refl) c.in_ok-push.ensures.items c.loop-router.invariant.named;
     }
 
 pub returns : goal.returns
-returns c = all_rows (λ (place : ℕ). IsNamed c.args.lists.now c.args.names.now) c.args.lists.now c.args.lists.now c.loop-router.router-index c.loop-router.named.items c.loop-router-test.false refl c.loop-router.invariant.named
+returns c = all_rows (λ (place : ℕ). IsNamed c.args.lists.now c.args.names.now) c.args.lists.now c.args.lists.now c.loop-router.router-index c.loop-router.named.items
+    c.loop-router-test.false refl c.loop-router.invariant.named

@@ -8,7 +8,8 @@ use Rattle.edit_space.proofs.new_lists.new_named.Goals as goal
 pub named_lists-requires-clause-within : goal.named_lists-requires-clause-within
 named_lists-requires-clause-within c =
     let net = c.args.net.now in
-    subst (λ (l : List (ℕ × NewList)). All (λ (x : ℕ × NewList). x.0 < length net.routers) l) (sym (c.deref-3.ensures.value ∙ c.in_ok-lists.ensures.lists)) (new_lists_within net c.requires.valid c.args.changes.now.edits.items)
+    subst (λ (l : List (ℕ × NewList)). All (λ (x : ℕ × NewList). x.0 < length net.routers) l) (sym (c.deref-3.ensures.value ∙ c.in_ok-lists.ensures.lists))
+    (new_lists_within net c.requires.valid c.args.changes.now.edits.items)
 
 pub returns : goal.returns
 returns c =
@@ -18,6 +19,7 @@ returns c =
     let named = c.in_ok-named.named.items in
     record {
       new_names = subst (λ (l : List (ℕ × NewList)). AreNewNames net l names) (c.deref.ensures.value ∙ lists) c.in_ok-names.ensures;
-      are_named = subst (λ (l : List (ℕ × NewList)). AreNamed l names named) (c.deref-3.ensures.value ∙ lists) (subst (λ (n : List (List (List ℕ))). AreNamed c.deref-3.result.now n named) c.deref-2.ensures.value c.in_ok-named.ensures);
+      are_named = subst (λ (l : List (ℕ × NewList)). AreNamed l names named) (c.deref-3.ensures.value ∙ lists)
+          (subst (λ (n : List (List (List ℕ))). AreNamed c.deref-3.result.now n named) c.deref-2.ensures.value c.in_ok-named.ensures);
       few = subst (λ (l : List (ℕ × NewList)). length l < 2 ^ 33) lists c.in_ok-lists.ensures.few;
     }

@@ -35,9 +35,11 @@ loop-place-preserved c =
     let size : length named ≡ i = ap length c.loop-place.invariant.names ∙ length-map-range_with_len (λ (r : ℕ). free_names (names_of net r) (length (of_number r lists))) 0 i in
     record {
       names =
-          new_names_more net lists i router (length c.things_at-count.result.now) named c.push.new.self.items c.in_ok-free_names.field-0 within is (ap length group) c.in_ok-free_names.ensures.names c.loop-place.invariant.names
+          new_names_more net lists i router (length c.things_at-count.result.now) named c.push.new.self.items c.in_ok-free_names.field-0 within is (ap length
+          group) c.in_ok-free_names.ensures.names c.loop-place.invariant.names
           c.in_ok-push.ensures.items;
-      counted = counted_more named c.push.new.self.items lists i c.in_ok-free_names.field-0 size c.in_ok-push.ensures.items (c.in_ok-free_names.ensures.count ∙ ap length group) c.loop-place.invariant.counted;
+      counted = counted_more named c.push.new.self.items lists i c.in_ok-free_names.field-0 size c.in_ok-push.ensures.items
+          (c.in_ok-free_names.ensures.count ∙ ap length group) c.loop-place.invariant.counted;
       few = few_more net i router within is c.in_ok-free_names.ensures.limit c.loop-place.invariant.few;
     }
 

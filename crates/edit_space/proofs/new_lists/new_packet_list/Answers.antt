@@ -10,10 +10,12 @@ pub returns-then-not-is_filled : goal.returns-then-not-is_filled
 returns-then-not-is_filled c =
     let list : Option (ℕ × NewList) = Some (c.args.face.now.router.0, Packet (record { 0 = c.args.place })) in
     let groups : List (List Class) = c.deref.result.now in
-    picked_unless_empty groups (new_classes c.args.changes.now.edits.items) (length c.args.net.now.faces) (c.args.place) c.is_filled.result false list (c.deref.ensures.value ∙ c.requires.changes.new_packets) (c.requires.within) c.is_filled.ensures c.if-not-is_filled.true
+    picked_unless_empty groups (new_classes c.args.changes.now.edits.items) (length c.args.net.now.faces) (c.args.place) c.is_filled.result false list
+    (c.deref.ensures.value ∙ c.requires.changes.new_packets) (c.requires.within) c.is_filled.ensures c.if-not-is_filled.true
 
 pub returns : goal.returns
 returns c =
     let list : Option (ℕ × NewList) = Some (c.args.face.now.router.0, Packet (record { 0 = c.args.place })) in
     let groups : List (List Class) = c.deref.result.now in
-    picked_unless_empty groups (new_classes c.args.changes.now.edits.items) (length c.args.net.now.faces) (c.args.place) c.is_filled.result true list (c.deref.ensures.value ∙ c.requires.changes.new_packets) (c.requires.within) c.is_filled.ensures c.if-not-is_filled.false
+    picked_unless_empty groups (new_classes c.args.changes.now.edits.items) (length c.args.net.now.faces) (c.args.place) c.is_filled.result true list
+    (c.deref.ensures.value ∙ c.requires.changes.new_packets) (c.requires.within) c.is_filled.ensures c.if-not-is_filled.false

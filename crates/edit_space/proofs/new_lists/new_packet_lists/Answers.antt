@@ -18,7 +18,8 @@ loop-place-preserved c =
           (sym c.new_packet_list.ensures ∙ w.in-Some.is) c.loop-place.invariant (ap (λ v. v.items) w.lists-is ∙ w.in_ok-push.ensures.items)
       | in_default w ↦
           ap (λ v. v.items) w.lists-is ∙
-          placed_not_picked (new_packet_list chosen) faces i face c.loop-place-test.true c.index-faces-place.is c.loop-place.lists.items (sym c.new_packet_list.ensures ∙ w.in_default.is) c.loop-place.invariant
+          placed_not_picked (new_packet_list chosen) faces i face c.loop-place-test.true c.index-faces-place.is c.loop-place.lists.items
+          (sym c.new_packet_list.ensures ∙ w.in_default.is) c.loop-place.invariant
     ]
 
 pub returns : goal.returns

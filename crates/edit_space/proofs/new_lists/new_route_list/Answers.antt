@@ -15,11 +15,19 @@ returns-then-not-is_filled c =
     let row : slice_get c.args.net.now.faces c.args.session.now.face.0 ≡ Some c.in_ok-face.face.now = sym c.in_ok-face.ensures.item in
     let list : Option (ℕ × NewList) = Some (c.in_ok-face.face.now.router.0, Route c.args.session.now.face) in
     let groups : List (List Prefix) = c.deref.result.now in
-    picked_unless_empty groups (new_prefixes c.args.changes.now.edits.items) (length c.args.net.now.faces) (c.args.session.now.face.0) c.is_filled.result false list (c.deref.ensures.value ∙ c.requires.new_routes) (slice_get_within c.args.net.now.faces c.args.session.now.face.0 c.in_ok-face.face.now row) c.is_filled.ensures c.if-not-is_filled.true ∙ ap (λ o. if is_empty (new_prefixes c.args.changes.now.edits.items c.args.session.now.face.0) then None else option_map (λ (f : FaceRow). (f.router.0, Route c.args.session.now.face)) o) (sym row)
+    picked_unless_empty groups (new_prefixes c.args.changes.now.edits.items) (length c.args.net.now.faces) (c.args.session.now.face.0) c.is_filled.result false list
+    (c.deref.ensures.value ∙ c.requires.new_routes) (slice_get_within c.args.net.now.faces c.args.session.now.face.0 c.in_ok-face.face.now row) c.is_filled.ensures
+    c.if-not-is_filled.true
+    ∙ ap (λ o. if is_empty (new_prefixes c.args.changes.now.edits.items c.args.session.now.face.0) then None else option_map
+    (λ (f : FaceRow). (f.router.0, Route c.args.session.now.face)) o) (sym row)
 
 pub returns : goal.returns
 returns c =
     let row : slice_get c.args.net.now.faces c.args.session.now.face.0 ≡ Some c.in_ok-face.face.now = sym c.in_ok-face.ensures.item in
     let list : Option (ℕ × NewList) = Some (c.in_ok-face.face.now.router.0, Route c.args.session.now.face) in
     let groups : List (List Prefix) = c.deref.result.now in
-    picked_unless_empty groups (new_prefixes c.args.changes.now.edits.items) (length c.args.net.now.faces) (c.args.session.now.face.0) c.is_filled.result true list (c.deref.ensures.value ∙ c.requires.new_routes) (slice_get_within c.args.net.now.faces c.args.session.now.face.0 c.in_ok-face.face.now row) c.is_filled.ensures c.if-not-is_filled.false ∙ ap (λ o. if is_empty (new_prefixes c.args.changes.now.edits.items c.args.session.now.face.0) then None else option_map (λ (f : FaceRow). (f.router.0, Route c.args.session.now.face)) o) (sym row)
+    picked_unless_empty groups (new_prefixes c.args.changes.now.edits.items) (length c.args.net.now.faces) (c.args.session.now.face.0) c.is_filled.result true list
+    (c.deref.ensures.value ∙ c.requires.new_routes) (slice_get_within c.args.net.now.faces c.args.session.now.face.0 c.in_ok-face.face.now row) c.is_filled.ensures
+    c.if-not-is_filled.false
+    ∙ ap (λ o. if is_empty (new_prefixes c.args.changes.now.edits.items c.args.session.now.face.0) then None else option_map
+    (λ (f : FaceRow). (f.router.0, Route c.args.session.now.face)) o) (sym row)

@@ -21,4 +21,5 @@ returns-clause-order c =
 pub returns-clause-same : goal.returns-clause-same
 returns-clause-same c =
     let Same : List Keyed → Type 0 = λ l. (x : Keyed) → Contains l x ↔ Contains c.args.lists.items x in
-    IfOk-weaker c.of.result (λ (l : List Keyed). l ≡ c.sort_by.new.self.items) Same (λ l e. subst Same (sym e) (same_lists c.args.lists.items c.sort_by.new.self.items c.sort_by.ensures.permutation)) c.of.ensures.ok
+    IfOk-weaker c.of.result (λ (l : List Keyed). l ≡ c.sort_by.new.self.items) Same
+    (λ l e. subst Same (sym e) (same_lists c.args.lists.items c.sort_by.new.self.items c.sort_by.ensures.permutation)) c.of.ensures.ok

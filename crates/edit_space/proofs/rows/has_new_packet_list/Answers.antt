@@ -5,4 +5,5 @@ use Rattle.edit_space.proofs.rows.has_new_packet_list.Goals as goal
 
 pub returns : goal.returns
 returns c =
-    filled_told c.deref.result.now (new_classes c.args.changes.now.edits.items) (length c.args.net.now.faces) c.args.face.0 c.is_filled.result (c.deref.ensures.value ∙ c.requires.changes.new_packets) c.requires.within c.is_filled.ensures
+    filled_told c.deref.result.now (new_classes c.args.changes.now.edits.items) (length c.args.net.now.faces) c.args.face.0 c.is_filled.result
+    (c.deref.ensures.value ∙ c.requires.changes.new_packets) c.requires.within c.is_filled.ensures

@@ -21,7 +21,8 @@ loop-place-preserved c =
     let names : c.index-names-place.result ≡ new_names_of c.args.net.now chosen i =
     c.index-names-place.is ∙ told_or (new_names_of c.args.net.now chosen) (length c.args.net.now.routers) i c.args.names.now c.index-names-place.result c.requires within in
     let router : RouterRow = c.router-item.result in
-    rows_more (IsRouterAfter c.args.net.now chosen) c.slice-router-items.result.now i router c.loop-place.routers.items c.push.new.self.items (record { name = c.in_ok-make.field-0; asn = router.asn; names = c.in_ok-joined_names.field-0 })
+    rows_more (IsRouterAfter c.args.net.now chosen) c.slice-router-items.result.now i router c.loop-place.routers.items c.push.new.self.items
+    (record { name = c.in_ok-make.field-0; asn = router.asn; names = c.in_ok-joined_names.field-0 })
     c.loop-place-test.true c.router-item.is
     (record {
       name = c.in_ok-make.ensures ∙ c.bytes.ensures;

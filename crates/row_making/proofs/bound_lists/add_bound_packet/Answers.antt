@@ -13,8 +13,10 @@ loop-face-init c = adds_no_item BindsPacketList c.slice-face-items.result.now c.
 pub loop-face-preserved : goal.loop-face-preserved
 loop-face-preserved c =
     let face : FaceText = c.face-item.result in
-    adds_more BindsPacketList c.slice-face-items.result.now c.loop-face.face-index face c.args.names.now.keys c.loop-face.names.keys c.add_group-in-loop-face.new.names.keys c.loop-face-test.true c.face-item.is c.loop-face.invariant
-    (adds_then (λ (name : List ℕ). value face.list_in ≡ Some name) (λ (name : List ℕ). value face.list_out ≡ Some name) c.loop-face.names.keys c.add_group.new.names.keys c.add_group-in-loop-face.new.names.keys
+    adds_more BindsPacketList c.slice-face-items.result.now c.loop-face.face-index face c.args.names.now.keys c.loop-face.names.keys c.add_group-in-loop-face.new.names.keys
+    c.loop-face-test.true c.face-item.is c.loop-face.invariant
+    (adds_then (λ (name : List ℕ). value face.list_in ≡ Some name)
+    (λ (name : List ℕ). value face.list_out ≡ Some name) c.loop-face.names.keys c.add_group.new.names.keys c.add_group-in-loop-face.new.names.keys
     c.in_ok-add_group.ensures c.in_ok-add_group-2.ensures)
 
 pub returns : goal.returns

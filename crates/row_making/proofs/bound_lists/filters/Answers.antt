@@ -14,6 +14,7 @@ loop-line-preserved c = record {
   unique = c.in_ok-add_filter.ensures.unique;
   said = λ peer.
       c.in_ok-add_filter.ensures.filters peer ∙
-      last_more (says_filter peer) c.args.lines.now c.loop-line.line-index c.line-item.result (option_map text (get nat_eq c.loop-line.filters peer)) (says_filter peer c.line-item.result.value) c.loop-line-test.true c.line-item.is
+      last_more (says_filter peer) c.args.lines.now c.loop-line.line-index c.line-item.result (option_map text (get nat_eq c.loop-line.filters peer))
+      (says_filter peer c.line-item.result.value) c.loop-line-test.true c.line-item.is
       (c.loop-line.invariant.said peer) refl;
 }

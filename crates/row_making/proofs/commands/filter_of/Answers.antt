@@ -9,4 +9,5 @@ pub loop-line-preserved : goal.loop-line-preserved
 loop-line-preserved c =
     let seen : Bor (List ℕ) → List ℕ = λ name. name.now in
     ap (option_map seen) c.or-last.ensures ∙ map_or seen c.says_filter.result c.loop-line.last ∙
-    last_more (says_filter c.args.peer) c.args.lines.now c.loop-line.line-index c.line-item.result (option_map seen c.loop-line.last) (option_map seen c.says_filter.result) c.loop-line-test.true c.line-item.is c.loop-line.invariant c.says_filter.ensures
+    last_more (says_filter c.args.peer) c.args.lines.now c.loop-line.line-index c.line-item.result (option_map seen c.loop-line.last)
+    (option_map seen c.says_filter.result) c.loop-line-test.true c.line-item.is c.loop-line.invariant c.says_filter.ensures

@@ -16,7 +16,8 @@ site_of c face = record { router = c.args.router; config = c.args.config.now; fa
 
 pub loop-face-preserved : goal.loop-face-preserved
 unfolding site_of
-loop-face-preserved c = λ before h. AllZip-mapped_more (IsFaceRow c.args.around.now.protocol (names_at c.args.around.now.ends.now.keys) (keys_at c.args.around.now.lists.now.keys)) (site_of c) before c.slice-face-items.result.now c.loop-face.face-index
+loop-face-preserved c = λ before h. AllZip-mapped_more (IsFaceRow c.args.around.now.protocol (names_at c.args.around.now.ends.now.keys) (keys_at c.args.around.now.lists.now.keys))
+    (site_of c) before c.slice-face-items.result.now c.loop-face.face-index
     c.face-item.result c.loop-face.rows.items c.push.new.self.items c.in_ok-face_row.field-0 c.loop-face-test.true c.face-item.is (c.loop-face.invariant before h)
     c.in_ok-push.ensures.items
     (subst (λ (config : Config). IsFaceRow c.args.around.now.protocol (names_at c.args.around.now.ends.now.keys) (keys_at c.args.around.now.lists.now.keys)

@@ -18,7 +18,8 @@ use Rattle.std.proofs.lemmas.List.{take_all}
 use Rattle.row_making.proofs.links.try_links.Goals as goal
 
 -- a link without a row joins no interfaces
-no_row : (names : List FullName) (link : LinkText) (found : Option LinkRow) → MatchOption found (¬ JoinsNamed names link) (λ row. JoinsNamed names link × IsLinkRow names link row) → ((row : LinkRow) → ¬ (found ≡ Some row)) → ¬ JoinsNamed names link
+no_row : (names : List FullName) (link : LinkText) (found : Option LinkRow) →
+    MatchOption found (¬ JoinsNamed names link) (λ row. JoinsNamed names link × IsLinkRow names link row) → ((row : LinkRow) → ¬ (found ≡ Some row)) → ¬ JoinsNamed names link
 no_row names link None said none = said
 no_row names link (Some row) said none = absurd (none row refl)
 
@@ -28,7 +29,8 @@ returns-in_default-clause-tried c =
     let items : List LinkText = c.slice-link-items.result.now in
     let r : Refusal = record { file = 0; number = c.loop-place.place + 1; kind = kinds.LinkFace } in
     let bad : ¬ JoinsNamed names c.link-item.result = no_row names c.link-item.result c.in_ok-row.field-0 c.in_ok-row.ensures (λ row. c.in_default.not-Some row) in
-    tried_refused (RefusesLinkFace c.args.doc.now c.args.configs.now) (λ (rows : List LinkRow). AllZip (IsLinkRow (full_names c.args.configs.now)) c.args.doc.now.links rows) c.in_document.result r c.in_document.ensures
+    tried_refused (RefusesLinkFace c.args.doc.now c.args.configs.now)
+    (λ (rows : List LinkRow). AllZip (IsLinkRow (full_names c.args.configs.now)) c.args.doc.now.links rows) c.in_document.result r c.in_document.ensures
     (refused_link c.args.doc.now c.args.configs.now names items r c.requires.names c.slice-link-items.ensures.items
     (first_item kinds.LinkFace (IsNoLink names items) items c.loop-place.place c.link-item.result c.loop-place-test.true c.link-item.is c.loop-place.invariant.clear (λ free. bad free.joins)))
 
@@ -41,24 +43,29 @@ returns-then-not-branch-clause-tried c =
     at_false _ _ _ c.if-not-branch.true c.in_ok-add_ends.ensures in
     let earlier : Contains (ends_of (take c.loop-place.place items)) (a_end c.link-item.result) ⊎ Contains (ends_of (take c.loop-place.place items)) (b_end c.link-item.result) =
     subst (λ (ends : List FullName). Contains ends (a_end c.link-item.result) ⊎ Contains ends (b_end c.link-item.result)) c.loop-place.invariant.ends used in
-    tried_refused (RefusesLinkFace c.args.doc.now c.args.configs.now) (λ (rows : List LinkRow). AllZip (IsLinkRow (full_names c.args.configs.now)) c.args.doc.now.links rows) c.in_document-then-not-branch.result r c.in_document-then-not-branch.ensures
+    tried_refused (RefusesLinkFace c.args.doc.now c.args.configs.now)
+    (λ (rows : List LinkRow). AllZip (IsLinkRow (full_names c.args.configs.now)) c.args.doc.now.links rows) c.in_document-then-not-branch.result r c.in_document-then-not-branch.ensures
     (refused_link c.args.doc.now c.args.configs.now names items r c.requires.names c.slice-link-items.ensures.items
-    (first_item kinds.LinkFace (IsNoLink names items) items c.loop-place.place c.link-item.result c.loop-place-test.true c.link-item.is c.loop-place.invariant.clear (not_free names (take c.loop-place.place items) c.link-item.result earlier)))
+    (first_item kinds.LinkFace (IsNoLink names items) items c.loop-place.place c.link-item.result c.loop-place-test.true c.link-item.is c.loop-place.invariant.clear
+    (not_free names (take c.loop-place.place items) c.link-item.result earlier)))
 
 pub loop-place-preserved : goal.loop-place-preserved
 loop-place-preserved c =
     let names : List FullName = names_at c.args.names.now.keys in
     let items : List LinkText = c.slice-link-items.result.now in
     let said = at_true _ _ _ c.if-not-branch.false c.in_ok-add_ends.ensures in
-    let row = subst (λ (o : Option LinkRow). MatchOption o (¬ JoinsNamed names c.link-item.result) (λ row. JoinsNamed names c.link-item.result × IsLinkRow names c.link-item.result row)) c.in-Some.is c.in_ok-row.ensures in
+    let row = subst (λ (o : Option LinkRow). MatchOption o (¬ JoinsNamed names c.link-item.result) (λ row. JoinsNamed names c.link-item.result × IsLinkRow names c.link-item.result row))
+    c.in-Some.is c.in_ok-row.ensures in
     let free : JoinsFree names (take c.loop-place.place items) c.link-item.result = record {
       joins = row.0;
       a_free = subst (λ (ends : List FullName). ¬ Contains ends (a_end c.link-item.result)) c.loop-place.invariant.ends said.0;
       b_free = subst (λ (ends : List FullName). ¬ Contains ends (b_end c.link-item.result)) c.loop-place.invariant.ends said.1;
     } in
     record {
-      rows = AllZip-more (IsLinkRow names) items c.loop-place.place c.link-item.result c.loop-place.rows c.push.new.self c.in-Some.row c.loop-place-test.true c.link-item.is c.loop-place.invariant.rows c.in_ok-push.ensures.ok row.1;
-      ends = pieces_more two_ends (names_at c.loop-place.ends.keys) (names_at c.add_ends.new.ends.keys) items c.loop-place.place c.link-item.result c.loop-place-test.true c.link-item.is c.loop-place.invariant.ends said.2;
+      rows = AllZip-more (IsLinkRow names) items c.loop-place.place c.link-item.result c.loop-place.rows c.push.new.self c.in-Some.row c.loop-place-test.true c.link-item.is
+          c.loop-place.invariant.rows c.in_ok-push.ensures.ok row.1;
+      ends = pieces_more two_ends (names_at c.loop-place.ends.keys)
+          (names_at c.add_ends.new.ends.keys) items c.loop-place.place c.link-item.result c.loop-place-test.true c.link-item.is c.loop-place.invariant.ends said.2;
       long = omega (arith, ap length c.in_ok-push.ensures.ok, length-append c.loop-place.rows (c.in-Some.row ∷ []), c.loop-place.invariant.long);
       clear = none_more kinds.LinkFace (IsNoLink names items) items c.loop-place.place c.link-item.result c.loop-place-test.true c.link-item.is c.loop-place.invariant.clear (λ bad. bad free);
     }

@@ -14,7 +14,8 @@ loop-list-init c = adds_no_item HasName c.slice-list-items.result.now c.args.nam
 pub loop-list-preserved : goal.loop-list-preserved
 loop-list-preserved c =
     let list : ListText = c.list-item.result in
-    adds_more HasName c.slice-list-items.result.now c.loop-list.list-index list c.args.names.now.keys c.loop-list.names.keys c.insert.new.self.keys c.loop-list-test.true c.list-item.is c.loop-list.invariant
+    adds_more HasName c.slice-list-items.result.now c.loop-list.list-index list c.args.names.now.keys c.loop-list.names.keys c.insert.new.self.keys c.loop-list-test.true c.list-item.is
+    c.loop-list.invariant
     (subst (λ (n : List ℕ). Adds (λ (name : List ℕ). n ≡ name) c.loop-list.names.keys c.insert.new.self.keys) c.bytes.ensures
     (adds_inserted c.loop-list.names.keys c.insert.new.self.keys c.bytes.result c.in_ok-insert.ensures.keys))
 

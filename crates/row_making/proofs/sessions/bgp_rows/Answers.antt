@@ -36,7 +36,8 @@ returns c = λ doc free base.
     } in
     let long : length c.args.configs.now ≤ c.loop-router.router = omega (arith, c.loop-router-test.false, ap length c.slice-config-items.ensures.items) in
     let all = all_sessions c.args.configs.now c.args.net.now.links keys c.loop-router.router c.loop-router.sessions.items long (c.loop-router.invariant files) in
-    subst (λ (rows : List SessionRow). AreInOrder (IsSessionBefore c.args.configs.now c.args.net.now.links (map route_list_key c.args.net.now.route_lists)) (IsSession c.args.configs.now c.args.net.now.links (map route_list_key c.args.net.now.route_lists)) rows)
+    subst (λ (rows : List SessionRow). AreInOrder (IsSessionBefore c.args.configs.now c.args.net.now.links (map route_list_key c.args.net.now.route_lists))
+    (IsSession c.args.configs.now c.args.net.now.links (map route_list_key c.args.net.now.route_lists)) rows)
     (sym c.in_ok-rows.ensures.ok)
     (subst (λ (l : List (ℕ × List ℕ)). AreInOrder (IsSessionBefore c.args.configs.now c.args.net.now.links l) (IsSession c.args.configs.now c.args.net.now.links l) c.loop-router.sessions.items)
     c.requires.lists all)

@@ -1,7 +1,0 @@
-use Rattle.std.proofs.Common.{◌≡◌, ◌++◌, take}
-use Rattle.std.specs.List.{filter_map}
-use Rattle.edit_space.specs.Working.{new_key_by, packet_face}
-use Rattle.edit_space.proofs.packet_lists.add_new_packet_lists.Given as goal
-
-abbrev pub invariant-loop-new : goal.invariant-loop-new
-invariant-loop-new l = l.keyed.items ≡ l.fn.keyed.items ++ filter_map (new_key_by packet_face) (take l.new-index l.named)
