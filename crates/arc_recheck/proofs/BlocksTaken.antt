@@ -77,7 +77,8 @@ module _ (net : Network) (doc : Document) (text : List ℕ) (blocks : HeldBlocks
   at_begun begun is = subst (λ (b : Bool). held_with b blocks.held (answer ∷ behind) ≡ whole) is come.all
 
   -- the lines that are left, where the reader has moved on
-  gone_on : (reader : Reader) (held : List verdicts.Verdict) → standing reader ≡ there → held ++ verdicts_before behind ≡ whole → HasComeTo net doc text rest (record { reader = reader; begun = true; held = held })
+  gone_on : (reader : Reader) (held : List verdicts.Verdict) → standing reader ≡ there → held ++ verdicts_before behind ≡ whole →
+      HasComeTo net doc text rest (record { reader = reader; begun = true; held = held })
   gone_on reader held stands e = record {
     none_before = λ never. absurd (false≢true (sym never));
     all = ap (λ (s : Standing). held ++ verdicts_before (answers net doc [] s rest)) stands ∙ e;
@@ -96,7 +97,8 @@ module _ (net : Network) (doc : Document) (text : List ℕ) (blocks : HeldBlocks
   -- a later one
   module _ (begun : blocks.begun ≡ true) (told : Told) (by : told ≡ told_by answer) where
     joined : (t : Told) → told ≡ t → blocks.held ++ with_told t (verdicts_before behind) ≡ whole
-    joined t e = ap (λ (u : Told). blocks.held ++ with_told u (verdicts_before behind)) (sym e ∙ by) ∙ (ap (λ (vs : List verdicts.Verdict). blocks.held ++ vs) (sym (by_told answer behind)) ∙ at_begun true begun)
+    joined t e = ap (λ (u : Told). blocks.held ++ with_told u (verdicts_before behind)) (sym e ∙ by)
+        ∙ (ap (λ (vs : List verdicts.Verdict). blocks.held ++ vs) (sym (by_told answer behind)) ∙ at_begun true begun)
 
     -- at a line that is rejected all blocks are held
     pub at_refused : told ≡ Refused → blocks.held ≡ whole
@@ -104,7 +106,8 @@ module _ (net : Network) (doc : Document) (text : List ℕ) (blocks : HeldBlocks
 
     module _ (reader : Reader) (stands : IsTaken told → standing reader ≡ there) where
       -- after a block one more is held
-      pub at_block : (v : verdicts.Verdict) (kept : List verdicts.Verdict) → told ≡ Block v → kept ≡ blocks.held ++ v ∷ [] → HasComeTo net doc text rest (record { reader = reader; begun = true; held = kept })
+      pub at_block : (v : verdicts.Verdict) (kept : List verdicts.Verdict) → told ≡ Block v → kept ≡ blocks.held ++ v ∷ [] →
+          HasComeTo net doc text rest (record { reader = reader; begun = true; held = kept })
       at_block v kept e more =
           gone_on reader kept (stands (subst IsTaken (sym e) tt))
           (ap (λ (ks : List verdicts.Verdict). ks ++ verdicts_before behind) more ∙ append_assoc blocks.held (v ∷ []) (verdicts_before behind) ∙ joined (Block v) e)

@@ -96,7 +96,8 @@ leads_by_route net ends pair is g graph route =
     (way_of_route net ends.to no_link IsAnyArc g of_ends (λ arc usable. tt) route.0 (source_router ends) (target_router ends) route.1))
 
 -- the graph without the arcs of a link is that of the arcs that are left
-left_graph : (net : Network) (to : Prefix) (link : Link) (g : graphs.Digraph) → IsGraphOf net to IsAnyArc g → IsGraphOf net to (IsLeft link) (record { nodes = g.nodes; arcs = needs.without g.arcs link })
+left_graph : (net : Network) (to : Prefix) (link : Link) (g : graphs.Digraph) → IsGraphOf net to IsAnyArc g →
+    IsGraphOf net to (IsLeft link) (record { nodes = g.nodes; arcs = needs.without g.arcs link })
 left_graph net to link g graph = record {
   nodes = graph.nodes;
   arcs = λ a. (

@@ -17,15 +17,15 @@ kept_word false = codes "new"
 
 -- the first line of a policy's block: its number, what it asks, the answer, how many lines follow,
 -- and whether it is kept
-abbrev pub head_line : ℕ → Network → Policy → Rechecked → List ℕ
-head_line number net policy r =
+abbrev pub rechecked_head_line : ℕ → Network → Policy → Rechecked → List ℕ
+rechecked_head_line number net policy r =
     line (decimal number) (kind_word policy.kind ∷ answer_word r.verdict ∷
     decimal (length (witness_lines net r.verdict)) ∷ kept_word r.kept ∷ [])
 
 -- the block of the policy with this number
 abbrev pub rechecked_text : ℕ → Network → Policy → Rechecked → List ℕ
 rechecked_text number net policy r =
-    head_line number net policy r ++ concat (witness_lines net r.verdict)
+    rechecked_head_line number net policy r ++ concat (witness_lines net r.verdict)
 
 -- the blocks of policies that are numbered from here on
 abbrev pub rechecked_texts : ℕ → Network → List Policy → List Rechecked → List ℕ

@@ -1,10 +1,10 @@
 //! The blocks that an old report holds.
-ghost use Rattle.std.specs.Prelude.{◌≡◌, ◌++◌, ◌∷◌, ℕ, [], List as Items, IfOk, IsTrue, OnOk};
-ghost use Rattle.std.specs.ControlFlow.{MatchControlFlow};
 ghost use Rattle.arc_base.specs.TextLines.{lines};
-ghost use Rattle.policy_report.specs.Steps.{standing, start, step};
-ghost use Rattle.policy_report.specs.Rereading.{answers};
 ghost use Rattle.arc_recheck.specs.Held.{held_verdicts, is_head, told_by, IsTaken};
+ghost use Rattle.policy_report.specs.Rereading.{answers};
+ghost use Rattle.policy_report.specs.Steps.{standing, start, step};
+ghost use Rattle.std.specs.ControlFlow.{MatchControlFlow};
+ghost use Rattle.std.specs.Prelude.{◌≡◌, ◌++◌, ◌∷◌, ℕ, [], List as Items, IfOk, IsTrue, OnOk};
 
 use arc_base::{CertKind, List, Memory};
 use net_model::{Document, Network, Verdict};

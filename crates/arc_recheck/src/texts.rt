@@ -1,7 +1,7 @@
 //! The text of a recheck.
-ghost use Rattle.std.specs.Prelude.{◌≡◌, ◌++◌, length, Some, IfOk, OnOk};
 ghost use Rattle.arc_recheck.specs.Texts.{kept_word, rechecked_text, rechecked_texts, alone_line};
 ghost use Rattle.arc_recheck.specs.Texts.{alone_lines, recheck_text};
+ghost use Rattle.std.specs.Prelude.{◌≡◌, ◌++◌, length, Some, IfOk, OnOk};
 
 use crate::rechecking::Rechecked;
 use arc_base::{Link, List, Memory, push_number};

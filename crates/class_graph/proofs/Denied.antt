@@ -41,12 +41,12 @@ either_way : (b : Bool) → (b ≡ true) ⊎ (b ≡ false)
 either_way true = inl refl
 either_way false = inr refl
 
--- a link whose two arcs do not deny does not
-pub not_denied : (net : Network) (to : Prefix) (answers : List Bool) (link : ℕ) → (¬ IsDeniedOver net to answers link true) → (¬ IsDeniedOver net to answers link false) →
-    ¬ IsDeniedBy net to answers link
-not_denied net to answers link forth back denied = elim (either_way denied.arc.from_a) [
-  | inl way ↦ forth (record { denied_by = denied; direction = way })
-  | inr way ↦ back (record { denied_by = denied; direction = way })
+-- a link that denies by its arc in the one direction or by that in the other
+pub other_way : (net : Network) (to : Prefix) (answers : List Bool) (link : ℕ) → (¬ IsDeniedOver net to answers link true) → IsDeniedBy net to answers link →
+    IsDeniedOver net to answers link false
+other_way net to answers link forth denied = elim (either_way denied.arc.from_a) [
+  | inl way ↦ absurd (forth (record { denied_by = denied; direction = way }))
+  | inr way ↦ record { denied_by = denied; direction = way }
 ]
 
 pub not_when : (b : Bool) (P : Type 0) → (P → IsTrue b) → b ≡ false → ¬ P

@@ -1,7 +1,7 @@
 -- Host networks for which the same arcs are routed have one graph.
-use Rattle.std.proofs.Common.{◌≡◌, ℕ, ◌+◌, ◌<◌, inl, inr, false, IsTrue, Option, Some, None, List, length, get_or, refl, sym, ◌∙◌, ap, subst, arith}
+use Rattle.std.proofs.Common.{◌≡◌, ℕ, ◌+◌, ◌<◌, inl, inr, Bool, false, IsTrue, Option, Some, None, List, length, get_or, refl, sym, ◌∙◌, ap, subst, arith}
 use Rattle.std.specs.Prelude.{IsSome, IsSomeAnd, IfSome, slice_get}
-use Rattle.std.proofs.lemmas.Bool.{cases_lt}
+use Rattle.std.proofs.lemmas.Bool.{cases_lt, false≢true}
 use Rattle.std.proofs.lemmas.List.{get_or_default}
 use Rattle.std.proofs.lemmas.Option.{slice_get_within, slice_get-get_or}
 use Rattle.arc_base.specs.declared.prefix.Prefix.{Prefix}
@@ -13,6 +13,7 @@ use Rattle.net_model.specs.Routing.{Arc, IsArc, IsRouted, IsRoutedLink}
 use Rattle.net_model.specs.Tables.{AreRoutedLinks}
 use Rattle.class_graph.specs.Building.{flag}
 use Rattle.class_graph.specs.Graphs.{IsShown, IsGraphOf, IsAnyArc}
+use Rattle.class_graph.specs.Listed.{AreListed}
 use Rattle.class_graph.proofs.NetworkArcs.{same_arc, flag_tells}
 use Rattle.class_graph.specs.declared.last_graph.LastGraph.{LastGraph}
 use Rattle.class_graph.specs.LastGraphs.{IsGraphOfTable}
@@ -55,21 +56,24 @@ same_graph net one other table g there here is = record {
   );
 }
 
--- the graph that was built for one of them
-pub of_table : (net : Network) (to : Prefix) (table : List RoutedLink) (last : LastGraph) → AreRoutedLinks net to table → last.routed ≡ table → IsGraphOf net to IsAnyArc last.graph → IsGraphOfTable net last
-of_table net to table last are same is other here =
-    same_graph net to other last.routed last.graph (subst (λ (links : List RoutedLink). AreRoutedLinks net to links) (sym same) are) here is
-
--- and serves another
-pub serving : (net : Network) (to : Prefix) (table : List RoutedLink) (last : Option LastGraph) → AreRoutedLinks net to table → IfSome last (IsGraphOfTable net) → IsSomeAnd last (λ l. l.routed ≡ table) →
+-- the graph that was built for one of them serves another
+pub serving : (net : Network) (to : Prefix) (table : List RoutedLink) (last : Option LastGraph) → AreRoutedLinks net to table →
+    IfSome last (IsGraphOfTable net) → IsSomeAnd last (λ l. l.routed ≡ table) →
     IsSomeAnd last (λ l. IsGraphOf net to IsAnyArc l.graph)
 serving net to table None are is same = absurd same
-serving net to table (Some last) are is same = is to (subst (λ (links : List RoutedLink). AreRoutedLinks net to links) (sym same) are)
+serving net to table (Some last) are is same =
+    same_graph net last.to to last.routed last.graph is.table (subst (λ (links : List RoutedLink). AreRoutedLinks net to links) (sym same) are) is.graph
 
 pub some_graph : (net : Network) (to : Prefix) (last : Option LastGraph) → IsSomeAnd last (λ l. IsGraphOf net to IsAnyArc l.graph) → IsSome last
 some_graph net to None is = absurd is
 some_graph net to (Some last) is = refl
 
-pub graph_of : (net : Network) (to : Prefix) (last : Option LastGraph) (g : Digraph) → IsSomeAnd last (λ l. IsGraphOf net to IsAnyArc l.graph) → IfSome last (λ l. g ≡ l.graph) → IsGraphOf net to IsAnyArc g
+pub graph_of : (net : Network) (to : Prefix) (last : Option LastGraph) (g : Digraph) → IsSomeAnd last (λ l. IsGraphOf net to IsAnyArc l.graph) →
+    IfSome last (λ l. g ≡ l.graph) → IsGraphOf net to IsAnyArc g
 graph_of net to None g is same = absurd is
 graph_of net to (Some last) g is same = subst (λ (h : Digraph). IsGraphOf net to IsAnyArc h) (sym same) is
+
+pub listed_of : (net : Network) (last : Option LastGraph) (listed : List Bool) → IfSome last (IsGraphOfTable net) → IsSome last → IfSome last (λ l. listed ≡ l.listed) →
+    AreListed net listed
+listed_of net None listed are some same = absurd (false≢true some)
+listed_of net (Some last) listed are some same = subst (λ (table : List Bool). AreListed net table) (sym same) are.listed

@@ -11,3 +11,6 @@ pub mod Clear
 pub mod FirstDenials
 pub mod FirstBetween
 pub mod LastGraphs
+pub mod ClassParts
+pub mod SameRoutes
+pub mod Unlisted

@@ -8,3 +8,5 @@ pub mod Passing
 pub mod FirstDenials
 pub mod Barriers
 pub mod LastGraphs
+pub mod Parts
+pub mod Listed

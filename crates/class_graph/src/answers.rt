@@ -1,7 +1,7 @@
 //! What the packet lists of a network answer to a class, by the packet of its first addresses.
-ghost use Rattle.std.specs.Prelude.{◌≡◌, ◌↔◌, IsTrue, IfOk};
-ghost use Rattle.net_model.specs.Packets.{first_packet};
 ghost use Rattle.class_graph.specs.Answers.{answers_to, Allows, EndsAllow};
+ghost use Rattle.net_model.specs.Packets.{first_packet};
+ghost use Rattle.std.specs.Prelude.{◌≡◌, ◌↔◌, IsTrue, IfOk};
 
 use arc_base::{List, ListId, Memory};
 use net_model::{Class, FaceRow, Network};

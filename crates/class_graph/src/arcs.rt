@@ -1,9 +1,9 @@
 //! The arcs over one link, and which of them belong to a class's graph.
-ghost use Rattle.std.specs.Prelude.{◌≡◌, ◌+◌, OnOk, IfSome, IfNone};
-ghost use Rattle.net_model.specs.Validity.{IsValid};
-ghost use Rattle.net_model.specs.Tables.{AreRoutedLinks};
 ghost use Rattle.class_graph.specs.Building.{Answered, IsArcOver, IsNoArcOver, IsGraphBelow};
 ghost use Rattle.class_graph.specs.Building.{number, flag, cost_from};
+ghost use Rattle.net_model.specs.Tables.{AreRoutedLinks};
+ghost use Rattle.net_model.specs.Validity.{IsValid};
+ghost use Rattle.std.specs.Prelude.{◌≡◌, ◌+◌, OnOk, IfSome, IfNone};
 
 use crate::answers::arc_allows;
 use crate::hosts::HostPair;

@@ -1,13 +1,15 @@
 //! What keeps packets of a list of classes out, whatever fails: a link that denies them, or where
 //! they enter and leave.
-ghost use Rattle.std.specs.Prelude.{IfOk};
-ghost use Rattle.net_model.specs.Forwarding.{Ends};
 ghost use Rattle.class_graph.specs.Barriers.{IsFirstBarrier, IsFirstBetween};
 ghost use Rattle.class_graph.specs.Classes.{AreAllUniform};
 ghost use Rattle.class_graph.specs.Hosts.{IsHostPair, HasHostPair};
+ghost use Rattle.class_graph.specs.Listed.{AreListed};
+ghost use Rattle.net_model.specs.Forwarding.{Ends};
+ghost use Rattle.std.specs.Prelude.{IfOk};
 
 use crate::first_denials::{Denial, first_denial};
 use crate::hosts::HostPair;
+use crate::listed::listed_links;
 use arc_base::{List, Memory};
 use net_model::{Class, Network};
 use std::alloc::Global;
@@ -34,7 +36,26 @@ pub fn first_barrier(
     ensures { IfOk result (λ found. (ends : Ends) → IsHostPair net.now ends pair.now →
         IsFirstBarrier net.now ends classes.now found) }
 {
-    let denial = denial_between(alloc, net, pair, classes)?;
+    let listed = listed_links(alloc, net)?;
+    first_barrier_by(alloc, net, pair, classes, &listed)
+}
+
+/// The barrier of `first_barrier`, where the table is that of the links with packet lists, which is
+/// the same for all policies.
+pub fn first_barrier_by(
+    alloc: Global,
+    net: &Network,
+    pair: &HostPair,
+    classes: &List<Class>,
+    listed: &List<bool>,
+) -> Result<Option<Barrier>, Memory>
+    requires pair { HasHostPair net.now pair.now }
+    requires uniform { AreAllUniform net.now classes.now }
+    requires listed { AreListed net.now listed.now }
+    ensures { IfOk result (λ found. (ends : Ends) → IsHostPair net.now ends pair.now →
+        IsFirstBarrier net.now ends classes.now found) }
+{
+    let denial = denial_between(alloc, net, pair, classes, listed)?;
     if let Some(denial) = denial {
         return Ok(Some(Barrier::Link(denial)));
     }
@@ -50,15 +71,17 @@ fn denial_between(
     net: &Network,
     pair: &HostPair,
     classes: &List<Class>,
+    listed: &List<bool>,
 ) -> Result<Option<Denial>, Memory>
     requires pair { HasHostPair net.now pair.now }
     requires uniform { AreAllUniform net.now classes.now }
+    requires listed { AreListed net.now listed.now }
     ensures { IfOk result (λ found. (ends : Ends) → IsHostPair net.now ends pair.now →
         IsFirstBetween net.now ends classes.now found) }
 {
     if pair.source.router.0 == pair.target.router.0 {
         Ok(None)
     } else {
-        first_denial(alloc, net, pair, classes)
+        first_denial(alloc, net, pair, classes, listed)
     }
 }

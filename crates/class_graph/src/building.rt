@@ -1,12 +1,12 @@
 //! Building the graph of a class, or of all routed arcs.
-ghost use Rattle.std.specs.Prelude.{IfOk};
-ghost use Rattle.net_model.specs.Validity.{IsValid};
+ghost use Rattle.class_graph.specs.Building.{Answered};
+ghost use Rattle.class_graph.specs.Graphs.{IsGraphOf, IsAnyArc, IsClassGraph, IsGraphOfClass};
+ghost use Rattle.class_graph.specs.Hosts.{IsHostPair, HasHostPair};
 ghost use Rattle.net_model.specs.Forwarding.{HasEnds, Ends};
 ghost use Rattle.net_model.specs.Tables.{AreRoutedLinks};
+ghost use Rattle.net_model.specs.Validity.{IsValid};
 ghost use Rattle.net_model.specs.Witnesses.{IsUniformFor};
-ghost use Rattle.class_graph.specs.Hosts.{IsHostPair, HasHostPair};
-ghost use Rattle.class_graph.specs.Graphs.{IsGraphOf, IsAnyArc, IsClassGraph, IsGraphOfClass};
-ghost use Rattle.class_graph.specs.Building.{Answered};
+ghost use Rattle.std.specs.Prelude.{IfOk};
 
 use crate::answers::list_answers;
 use crate::arcs::add_over;

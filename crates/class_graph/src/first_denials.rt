@@ -1,10 +1,11 @@
 //! The first denial of a list of classes.
-ghost use Rattle.std.specs.Prelude.{◌≡◌, length, IfOk};
 ghost use Rattle.class_graph.specs.Classes.{AreAllUniform};
-ghost use Rattle.class_graph.specs.Hosts.{HasHostPair};
 ghost use Rattle.class_graph.specs.FirstDenials.{IsFirstDenial, lower_of};
+ghost use Rattle.class_graph.specs.Hosts.{HasHostPair};
+ghost use Rattle.class_graph.specs.Listed.{AreListed};
+ghost use Rattle.std.specs.Prelude.{◌≡◌, length, IfOk};
 
-use crate::denials::denied_link;
+use crate::denials::denied_link_by;
 use crate::hosts::HostPair;
 use arc_base::{Link, List, Memory};
 use net_model::{Class, Network};
@@ -24,14 +25,16 @@ pub(crate) fn first_denial(
     net: &Network,
     pair: &HostPair,
     classes: &List<Class>,
+    listed: &List<bool>,
 ) -> Result<Option<Denial>, Memory>
     requires pair { HasHostPair net.now pair.now }
     requires uniform { AreAllUniform net.now classes.now }
+    requires listed { AreListed net.now listed.now }
     ensures { IfOk result (IsFirstDenial net.now pair.now.to classes.now (length classes.now)) }
 {
     let mut best = None;
     for class in classes.slice() {
-        let found = denied_link(alloc, net, pair, *class)?;
+        let found = denied_link_by(alloc, net, pair, *class, listed)?;
         best = lower(best, found, *class);
     }
     Ok(best)

@@ -1,14 +1,17 @@
 //! The interfaces at which the packets of a class enter and leave.
-ghost use Rattle.std.specs.Prelude.{◌↔◌, IsTrue, length, IfOk, IfSome, IfNone};
-ghost use Rattle.net_model.specs.declared.lists.Packet.{Packet as AnyPacket};
-ghost use Rattle.net_model.specs.Packets.{IsOf};
-ghost use Rattle.net_model.specs.Forwarding.{Ends, HasEnds, Enters, Leaves};
-ghost use Rattle.net_model.specs.Witnesses.{IsUniformFor};
 ghost use Rattle.class_graph.specs.Classes.{AreAllUniform};
 ghost use Rattle.class_graph.specs.Hosts.{IsOpenTo, Admits, IsHostPair, IsHostPairOf};
+ghost use Rattle.class_graph.specs.LastGraphs.{IsGraphOfTable};
 ghost use Rattle.class_graph.specs.Passing.{AllPass, IsFirstKeptOut};
+ghost use Rattle.net_model.specs.Forwarding.{Ends, HasEnds, Enters, Leaves};
+ghost use Rattle.net_model.specs.Packets.{IsOf};
+ghost use Rattle.net_model.specs.Witnesses.{IsUniformFor};
+ghost use Rattle.net_model.specs.declared.lists.Packet.{Packet as AnyPacket};
+ghost use Rattle.std.specs.Prelude.{◌↔◌, IsTrue, length, IfOk, IfSome, IfNone};
 
 use crate::answers::allows;
+use crate::last_graph::LastGraph;
+use crate::same_routes::routed_by;
 use arc_base::{List, ListId, Memory, Prefix, Router};
 use net_model::{Class, Network, Packet, RoutedLink};
 use std::alloc::Global;
@@ -91,12 +94,27 @@ pub fn host_pair(alloc: Global, net: &Network, class: Class) -> Result<HostPair,
     requires ends { HasEnds net.now class }
     ensures { IfOk result (IsHostPairOf net.now class) }
 {
+    host_pair_by(alloc, net, class, &None)
+}
+
+/// What `host_pair` gives. Which arcs are routed is not asked again where the network answers the
+/// same of the host network as of that of the last graph.
+pub fn host_pair_by(
+    alloc: Global,
+    net: &Network,
+    class: Class,
+    last: &Option<LastGraph>,
+) -> Result<HostPair, Memory>
+    requires ends { HasEnds net.now class }
+    requires last { IfSome last.now (IsGraphOfTable net.now) }
+    ensures { IfOk result (IsHostPairOf net.now class) }
+{
     let source = net.host_face(class.from);
     let target = net.host_face(class.to);
     let Some(to) = target.host else {
         unreachable!()
     };
-    let routed = net.routed_links(alloc, to)?;
+    let routed = routed_by(alloc, net, target, to, last)?;
     Ok(HostPair {
         source: End {
             router: source.router,

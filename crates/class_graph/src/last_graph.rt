@@ -1,14 +1,16 @@
 //! The graph of all routed arcs that was built last. It serves each host network for which the same
 //! arcs are routed.
-ghost use Rattle.std.specs.Prelude.{◌≡◌, IsTrue, IsSome, IsSomeAnd, IfSome, IfOk, OnOk};
-ghost use Rattle.net_model.specs.Validity.{IsValid};
 ghost use Rattle.class_graph.specs.Graphs.{IsGraphOf, IsAnyArc};
 ghost use Rattle.class_graph.specs.Hosts.{HasHostPair};
 ghost use Rattle.class_graph.specs.LastGraphs.{IsGraphOfTable};
+ghost use Rattle.net_model.specs.Validity.{IsValid};
+ghost use Rattle.std.specs.Prelude.{◌≡◌, IsTrue, IsSome, IsSomeAnd, IfSome, IfOk, OnOk};
 
 use crate::building::routed_graph;
 use crate::hosts::HostPair;
-use arc_base::{List, Memory};
+use crate::listed::listed_links;
+use crate::same_routes::copy_of;
+use arc_base::{List, Memory, Prefix};
 use graph_flow::Graph;
 use net_model::{Network, RoutedLink};
 use std::alloc::Global;
@@ -16,8 +18,14 @@ use std::alloc::Global;
 /// A graph of all routed arcs, with the table that says which these are.
 #[derive(Debug, Drop)]
 pub struct LastGraph {
+    /// The host network that it was built for.
+    pub to: Prefix,
+    /// Whether some interface that is up advertises it.
+    pub told: bool,
     pub routed: List<RoutedLink>,
     pub graph: Graph,
+    /// The table of the links with packet lists.
+    pub listed: List<bool>,
 }
 
 /// Whether the same arcs of a link are routed.
@@ -56,12 +64,19 @@ fn serves(last: &Option<LastGraph>, pair: &HostPair) -> bool
 fn build(alloc: Global, net: &Network, pair: &HostPair) -> Result<LastGraph, Memory>
     requires valid { IsValid net.now }
     requires pair { HasHostPair net.now pair.now }
-    ensures table { IfOk result (λ l. l.routed ≡ pair.now.routed) }
+    ensures table { IfOk result (IsGraphOfTable net.now) }
     ensures graph { IfOk result (λ l. IsGraphOf net.now pair.now.to IsAnyArc l.graph) }
 {
-    let routed = List::of(pair.routed.slice().to_vec(alloc)?)?;
+    let routed = copy_of(alloc, &pair.routed)?;
     let graph = routed_graph(alloc, net, pair)?;
-    Ok(LastGraph { routed, graph })
+    let listed = listed_links(alloc, net)?;
+    Ok(LastGraph {
+        to: pair.to,
+        told: net.is_told(pair.to),
+        routed,
+        graph,
+        listed,
+    })
 }
 
 /// Makes the last graph that of all routed arcs for the pair. It is built only where the last one
@@ -93,6 +108,17 @@ pub fn graph_in(last: &Option<LastGraph>) -> &Graph
 {
     match last {
         Some(last) => &last.graph,
+        None => unreachable!(),
+    }
+}
+
+/// The table of links beside the last graph.
+pub fn listed_in(last: &Option<LastGraph>) -> &List<bool>
+    requires { IsSome last.now }
+    ensures { IfSome last.now (λ l. result.now ≡ l.listed) }
+{
+    match last {
+        Some(last) => &last.listed,
         None => unreachable!(),
     }
 }

@@ -1,6 +1,6 @@
 //! Which of the routed arcs a graph takes.
-ghost use Rattle.std.specs.Prelude.{◌↔◌, IsTrue};
 ghost use Rattle.class_graph.specs.Graphs.{MayUse};
+ghost use Rattle.std.specs.Prelude.{◌↔◌, IsTrue};
 
 /// Which of the routed arcs a graph has.
 #[derive(Clone, Copy, Debug, PartialEq, Eq)]

@@ -1,5 +1,6 @@
 -- Flows against the links that leave a side: no flow has more units than these, and a flow that cannot grow has as many.
-use Rattle.std.proofs.Common.{◌≡◌, ℕ, zero, suc, ◌+◌, ◌<◌, ◌≤◌, Bool, true, false, not, ◌&&◌, IsTrue, List, [], ◌∷◌, length, get_or, set, All, AllPairs, Contains, inl, inr, refl, sym, ap, ◌∙◌, subst, arith, Some, None, Option, sum_by, get_or-set_same, get_or-set_other}
+use Rattle.std.proofs.Common.{◌≡◌, ℕ, zero, suc, ◌+◌, ◌<◌, ◌≤◌, Bool, true, false, not, ◌&&◌, IsTrue, List, [], ◌∷◌, length, get_or}
+use Rattle.std.proofs.Common.{set, All, AllPairs, Contains, inl, inr, refl, sym, ap, ◌∙◌, subst, arith, Some, None, Option, sum_by, get_or-set_same, get_or-set_other}
 use Rattle.std.specs.Prelude.{if◌then◌else◌}
 use Rattle.std.specs.List.{cons_option}
 use Rattle.std.proofs.lemmas.Bool.{cases_eq, cases_lt, cases_Bool, false≢true, and_parts, and_from, not-true}
@@ -67,7 +68,8 @@ covered-rest side k links units h inside l arc e out =
           ]
     ]
 
-covered-skip : (side : ℕ → Bool) (k : Link) (links : List Link) (units : Units) → Covers side (k ∷ links) units → ((arc : Arc) → unit_at units k.0 ≡ Some arc → Leaves side arc → ⊥) → Covers side links units
+covered-skip : (side : ℕ → Bool) (k : Link) (links : List Link) (units : Units) → Covers side (k ∷ links) units →
+    ((arc : Arc) → unit_at units k.0 ≡ Some arc → Leaves side arc → ⊥) → Covers side links units
 covered-skip side k links units h never l arc e out =
     let found = h l arc e out in elim (Contains-cases k links found.0 found.1) [
       | inl same ↦ absurd (never arc (ap (λ (n : ℕ). unit_at units n) (ap (λ (x : Link). x.0) same ∙ found.2) ∙ e) out)
@@ -171,8 +173,10 @@ all_out g units side is on closed arc m out =
           elim (AllPairs-members MayShare g.arcs used arc is.opposite (on.is_arc arc.link.0 used e) m) [
             | inl same ↦ e ∙ ap Some same
             | inr pair ↦ elim pair [
-              | inl share ↦ absurd (both (side arc.head) (subst (λ (n : ℕ). side n ≡ true) (share.forth links) (back (subst (λ (n : ℕ). side n ≡ true) (sym (share.back links)) out.from_inside))) out.to_outside)
-              | inr share ↦ absurd (both (side arc.head) (subst (λ (n : ℕ). side n ≡ true) (sym (share.back (sym links))) (back (subst (λ (n : ℕ). side n ≡ true) (share.forth (sym links)) out.from_inside))) out.to_outside)
+              | inl share ↦ absurd (both (side arc.head)
+                  (subst (λ (n : ℕ). side n ≡ true) (share.forth links) (back (subst (λ (n : ℕ). side n ≡ true) (sym (share.back links)) out.from_inside))) out.to_outside)
+              | inr share ↦ absurd (both (side arc.head)
+                  (subst (λ (n : ℕ). side n ≡ true) (sym (share.back (sym links))) (back (subst (λ (n : ℕ). side n ≡ true) (share.forth (sym links)) out.from_inside))) out.to_outside)
             ]
           ]
     ]

@@ -1,5 +1,6 @@
 -- How a path of units is found and taken out of a flow, and what is then left.
-use Rattle.std.proofs.Common.{◌≡◌, ◌≢◌, ℕ, zero, suc, ◌+◌, ◌-◌, ◌<◌, ◌≤◌, Bool, true, false, not, ◌&&◌, ◌||◌, is_some, List, [], ◌∷◌, ◌++◌, length, get_or, set, take, drop, All, Contains, inl, inr, refl, sym, ap, ◌∙◌, subst, arith, Some, None, Option, filter_map, sum_by}
+use Rattle.std.proofs.Common.{◌≡◌, ◌≢◌, ℕ, zero, suc, ◌+◌, ◌-◌, ◌<◌, ◌≤◌, Bool, true, false, not, ◌&&◌, ◌||◌, is_some, List, [], ◌∷◌, ◌++◌}
+use Rattle.std.proofs.Common.{length, get_or, set, take, drop, All, Contains, inl, inr, refl, sym, ap, ◌∙◌, subst, arith, Some, None, Option, filter_map, sum_by}
 use Rattle.std.specs.Prelude.{◌==◌, if◌then◌else◌}
 use Rattle.std.specs.List.{cons_option}
 use Rattle.std.proofs.lemmas.Bool.{cases_lt, cases_Bool, eq-eqb, eqb-true, ne_eqb, false≢true, not-false, or_cases}
@@ -46,16 +47,17 @@ filter_map-none {X} {Y} h xs i d old l is none =
 
 pub filter_map-shorter : {X Y : Type 0} (h : X → Option Y) (xs : List X) (i : ℕ) → length (filter_map h (take i xs)) ≤ length (filter_map h xs)
 filter_map-shorter {X} {Y} h xs i =
-    let parts : filter_map h xs ≡ filter_map h (take i xs) ++ filter_map h (drop i xs) = ap (λ (zs : List X). filter_map h zs) (sym (take-append-drop i xs)) ∙ filter_map-append h (take i xs) (drop i xs) in
+    let parts : filter_map h xs ≡ filter_map h (take i xs) ++ filter_map h (drop i xs) =
+    ap (λ (zs : List X). filter_map h zs) (sym (take-append-drop i xs)) ∙ filter_map-append h (take i xs) (drop i xs) in
     omega (arith, ap (λ (ys : List Y). length ys) parts, length-append (filter_map h (take i xs)) (filter_map h (drop i xs)))
 
 same-arc : (a b : Arc) → Some a ≡ Some b → a ≡ b
 same-arc a b e = cc
 
-no-arc : (a : Arc) → None ≡ Some a → ⊥
+pub no-arc : (a : Arc) → None ≡ Some a → ⊥
 no-arc a e = cc
 
-if-arc : (b : Bool) (a c : Arc) → (if b then Some a else None) ≡ Some c → (b ≡ true) × (a ≡ c)
+pub if-arc : (b : Bool) (a c : Arc) → (if b then Some a else None) ≡ Some c → (b ≡ true) × (a ≡ c)
 if-arc true a c e = (refl, same-arc a c e)
 if-arc false a c e = absurd (no-arc c e)
 
@@ -93,25 +95,6 @@ or-none : (a b : Bool) → (a || b) ≡ false → a ≡ false
 or-none true b e = absurd (false≢true (sym e))
 or-none false b e = refl
 
-taken-below : (units : Units) (n k : ℕ) → k < length (take n units) → k < n
-taken-below units n k l = omega (arith, l, length-take n units)
-
--- a new arc of the units has another link than those before it
-pub share-new : (units : Units) (first arc : Arc) (index : ℕ) (arcs : List Arc) → ((link : ℕ) (a : Arc) → unit_at units link ≡ Some a → a.link.0 ≡ link) → arcs ≡ passable (take index units) first →
-    unit_at units index ≡ Some arc → All (λ (other : Arc). MayShare other arc) arcs
-share-new units first arc index arcs of_link is at =
-    All-from_members (λ (other : Arc). MayShare other arc) arcs (λ other m.
-    let found = passable-unit (take index units) first other (subst (λ (xs : List Arc). Contains xs other) is m) in
-    let low : (found.0).0 < length (take index units) = place_below (take index units) (found.0).0 other (found.0).1 in
-    let before : (found.0).0 < index = taken-below units index (found.0).0 low in
-    let in_units : unit_at units (found.0).0 ≡ Some other = sym (get_or-take index units (found.0).0 None before) ∙ (found.0).1 in
-    let other_number : other.link.0 ≡ (found.0).0 = of_link (found.0).0 other in_units in
-    let number : arc.link.0 ≡ index = of_link index arc at in
-    record {
-      forth = λ e. absurd (omega (arith, other_number, number, before, ap (λ (k : Link). k.0) e));
-      back = λ e. absurd (omega (arith, other_number, number, before, ap (λ (k : Link). k.0) e));
-    })
-
 -- sums where no unit counts less, and one counts more
 sum-le : (f h : Option Arc → ℕ) (units : Units) → ((l : ℕ) → l < length units → f (unit_at units l) ≤ h (unit_at units l)) → sum_by f units ≤ sum_by h units
 sum-le f h [] le = omega arith
@@ -144,14 +127,16 @@ first-way g s t units first is ls lt flow at from =
       | inl to ↦ way_from_leads (passable units first) s t to
       | inr cut ↦
           let sep : Separates s t (leads (passable units first) s) = record { source = leads-start (passable units first) s; target = cut } in
-          let closed : (arc : Arc) → Contains (passable units first) arc → leads (passable units first) s arc.tail ≡ true → leads (passable units first) s arc.head ≡ true = leads-closed (passable units first) s in
+          let closed : (arc : Arc) → Contains (passable units first) arc → leads (passable units first) s arc.tail ≡ true → leads (passable units first) s arc.head ≡ true =
+          leads-closed (passable units first) s in
           let less : sum_by (leads_out (leads (passable units first) s)) units + 1 ≤ sum_by (unit_from s) units =
           sum-less (leads_out (leads (passable units first) s)) (unit_from s) units first.link.0
           (λ l b. elim (none_or_some (unit_at units l)) [
             | inl none ↦
                 let a : leads_out (leads (passable units first) s) (unit_at units l) ≡ 0 = ap (leads_out (leads (passable units first) s)) none in omega (arith, a)
             | inr (arc, e) ↦
-                let out : leads_out (leads (passable units first) s) (unit_at units l) ≡ ind (leads (passable units first) s arc.tail && not (leads (passable units first) s arc.head)) = ap (leads_out (leads (passable units first) s)) e in
+                let out : leads_out (leads (passable units first) s) (unit_at units l) ≡ ind (leads (passable units first) s arc.tail && not (leads (passable units first) s arc.head)) =
+                ap (leads_out (leads (passable units first) s)) e in
                 let from_it : unit_from s (unit_at units l) ≡ unit_from s (Some arc) = ap (unit_from s) e in
                 elim (cases_Bool (may_pass first arc)) [
                   | inl may ↦
@@ -159,7 +144,8 @@ first-way g s t units first is ls lt flow at from =
                       both (leads (passable units first) s arc.head) (closed arc (unit-passable units first arc l e may) leaves.from_inside) leaves.to_outside) in
                       omega (arith, out, none)
                   | inr may_not ↦
-                      let same : arc.tail ≡ first.tail = eqb-true arc.tail first.tail (not-false (arc.tail == first.tail) (or-none (not (arc.tail == first.tail)) (arc.link.0 == first.link.0) may_not)) in
+                      let same : arc.tail ≡ first.tail = eqb-true arc.tail first.tail
+                      (not-false (arc.tail == first.tail) (or-none (not (arc.tail == first.tail)) (arc.link.0 == first.link.0) may_not)) in
                       omega (arith, out, from_it, one-from s arc (same ∙ from), one-at-most (leads (passable units first) s arc.tail && not (leads (passable units first) s arc.head)))
                 ]
           ])
@@ -205,12 +191,15 @@ takes-way g units first t way is apart flow at p once =
     let sub : (arc : Arc) → Contains (passable units first) arc → Contains (carried units) arc =
     λ arc m. let found = passable-unit units first arc m in at-carried units (found.0).0 arc (found.0).1 in
     let load : IsLaden units way = laden g.arcs (passable units first) units on sub first.tail t way p once in
-    let one : unit_from first.tail (unit_at units first.link.0) ≤ leaving units first.tail = get_or-le-sum_by (unit_from first.tail) units first.link.0 None (place_below units first.link.0 first at) in
+    let one : unit_from first.tail (unit_at units first.link.0) ≤ leaving units first.tail =
+    get_or-le-sum_by (unit_from first.tail) units first.link.0 None (place_below units first.link.0 first at) in
     let positive : leaving units first.tail ≡ (leaving units first.tail - 1) + 1 = omega (arith, one, ap (unit_from first.tail) at, one-from first.tail first refl) in
     let more : IsFlow g.arcs first.tail t ((leaving units first.tail - 1) + 1) units = subst (λ (n : ℕ). IsFlow g.arcs first.tail t n units) positive flow in
-    let left : IsFlow g.arcs first.tail t (leaving units first.tail - 1) (cleared units (links_of way)) = taken g.arcs (passable units first) units first.tail t (leaving units first.tail - 1) more way load p in
+    let left : IsFlow g.arcs first.tail t (leaving units first.tail - 1) (cleared units (links_of way)) =
+    taken g.arcs (passable units first) units first.tail t (leaving units first.tail - 1) more way load p in
     let none : entering (cleared units (links_of way)) first.tail ≡ 0 = omega (arith, entering-cleared units (links_of way) first.tail, none-enters g.arcs first.tail t units apart flow) in
-    let value : leaving (cleared units (links_of way)) first.tail ≡ leaving units first.tail - 1 = value-leaves g.arcs first.tail t (leaving units first.tail - 1) (cleared units (links_of way)) apart left none in
+    let value : leaving (cleared units (links_of way)) first.tail ≡ leaving units first.tail - 1 =
+    value-leaves g.arcs first.tail t (leaving units first.tail - 1) (cleared units (links_of way)) apart left none in
     let begins = begins-with units first t way apart p in
     record {
       path = record {

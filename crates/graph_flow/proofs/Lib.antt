@@ -2,6 +2,8 @@ pub mod Lists
 pub mod Rows
 pub mod Searches
 pub mod Looks
+pub mod OpenArcs
+pub mod UnitArcs
 pub mod Marked
 pub mod Grows
 pub mod Extracts

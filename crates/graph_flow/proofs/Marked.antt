@@ -1,5 +1,6 @@
 -- The ways that a finished search knows.
-use Rattle.std.proofs.Common.{◌≡◌, ◌≢◌, ℕ, zero, suc, ◌≤◌, Bool, true, false, IsTrue, is_some, List, [], ◌∷◌, ◌++◌, length, get_or, map, replicate, reverse, append_assoc, All, inl, inr, ◌⊎◌, refl, sym, ap, ◌∙◌, subst, arith, Some, None, Option}
+use Rattle.std.proofs.Common.{◌≡◌, ◌≢◌, ℕ, zero, suc, ◌≤◌, Bool, true, false, IsTrue, is_some, List, [], ◌∷◌, ◌++◌, length, get_or}
+use Rattle.std.proofs.Common.{map, replicate, reverse, append_assoc, All, inl, inr, ◌⊎◌, refl, sym, ap, ◌∙◌, subst, arith, Some, None, Option}
 use Rattle.std.specs.Prelude.{if◌then◌else◌}
 use Rattle.std.proofs.lemmas.Bool.{cases_lt, false≢true}
 use Rattle.std.proofs.lemmas.List.{get_or_past, get_or-map, map_push, length-map, reverse-append}
@@ -50,7 +51,8 @@ reached arcs s marks marked zero node seen d =
             record {
               leads = sym same;
               once = AllPairs-cons (λ x y. x ≢ y) s [] (All-nil (λ x. s ≢ x)) (AllPairs-nil (λ x y. x ≢ y));
-              low = All-cons (λ x. depth_of (mark_at marks x) ≤ 0) s [] (let z : depth_of (mark_at marks s) ≡ 0 = ap depth_of marked.start in omega (arith, z)) (All-nil (λ x. depth_of (mark_at marks x) ≤ 0));
+              low = All-cons (λ x. depth_of (mark_at marks x) ≤ 0) s [] (let z : depth_of (mark_at marks s) ≡ 0 = ap depth_of marked.start in omega (arith, z))
+                  (All-nil (λ x. depth_of (mark_at marks x) ≤ 0));
             }
         | inr (arc, steps, e) ↦
             let after : IsAfter marks node arc steps = marked.steps node arc steps e in
@@ -77,11 +79,13 @@ reached arcs s marks marked (suc depth) node seen d =
               once = subst (λ (xs : List ℕ). AreDistinct xs) nodes_are
                   (all_pairs_push (λ x y. x ≢ y) (nodes_of s (way_by marks depth (mark_at marks arc.tail))) arc.head before.once (λ k x l same.
                   let low : depth_of (mark_at marks (get_or (nodes_of s (way_by marks depth (mark_at marks arc.tail))) k x)) ≤ depth = before.low k x l in
-                  let same_depth : depth_of (mark_at marks (get_or (nodes_of s (way_by marks depth (mark_at marks arc.tail))) k x)) ≡ depth_of (mark_at marks arc.head) = ap (λ (n : ℕ). depth_of (mark_at marks n)) same in
+                  let same_depth : depth_of (mark_at marks (get_or (nodes_of s (way_by marks depth (mark_at marks arc.tail))) k x)) ≡ depth_of (mark_at marks arc.head) =
+                  ap (λ (n : ℕ). depth_of (mark_at marks n)) same in
                   omega (arith, low, same_depth, head_depth)));
               low = subst (λ (xs : List ℕ). All (λ x. depth_of (mark_at marks x) ≤ suc depth) xs) nodes_are
                   (All-push (λ x. depth_of (mark_at marks x) ≤ suc depth) (nodes_of s (way_by marks depth (mark_at marks arc.tail))) arc.head
-                  (All-weaker (λ x. depth_of (mark_at marks x) ≤ depth) (λ x. depth_of (mark_at marks x) ≤ suc depth) (λ x l. omega (arith, l)) (nodes_of s (way_by marks depth (mark_at marks arc.tail))) before.low)
+                  (All-weaker (λ x. depth_of (mark_at marks x) ≤ depth) (λ x. depth_of (mark_at marks x) ≤ suc depth) (λ x l. omega (arith, l))
+                  (nodes_of s (way_by marks depth (mark_at marks arc.tail))) before.low)
                   (omega (arith, head_depth)));
             } in
             on-reached arcs s marks node (suc depth) (subst (λ (w : List Arc). On arcs s marks node (suc depth) w) (ap (λ (m : Mark). way_by marks (suc depth) m) (sym e)) last)

@@ -1,5 +1,6 @@
 -- The theorem of Menger for links, by flows that grow as long as the residual network leads to the target.
-use Rattle.std.proofs.Common.{◌≡◌, ◌≢◌, ℕ, zero, suc, ◌+◌, ◌<◌, ◌≤◌, Bool, true, false, IsTrue, IsFalse, List, [], ◌∷◌, length, map, replicate, All, Contains, inl, inr, ◌⊎◌, refl, sym, ap, subst, arith, None, Option, filter}
+use Rattle.std.proofs.Common.{◌≡◌, ◌≢◌, ℕ, zero, suc, ◌+◌, ◌<◌, ◌≤◌, Bool, true, false, IsTrue, IsFalse, List, [], ◌∷◌}
+use Rattle.std.proofs.Common.{length, map, replicate, All, Contains, inl, inr, ◌⊎◌, refl, sym, ap, subst, arith, None, Option, filter}
 use Rattle.std.specs.Prelude.{◌==◌}
 use Rattle.std.proofs.lemmas.Bool.{cases_lt, cases_Bool}
 use Rattle.std.proofs.lemmas.List.{get_or_past, get_or-replicate, length-replicate}

@@ -1,5 +1,6 @@
 -- A path is walked beside the residual network of its own unit: a node of it that the network does not lead to is behind a link that is needed.
-use Rattle.std.proofs.Common.{◌≡◌, ℕ, ◌<◌, Bool, true, not, IsTrue, IsFalse, IsSome, ◌↔◌, List, [], ◌∷◌, ◌++◌, length, set, All, AllPairs, Contains, inl, inr, ◌⊎◌, refl, sym, ap, ◌∙◌, subst, arith, Some, None, Option, get_or-set_same, get_or-set_other}
+use Rattle.std.proofs.Common.{◌≡◌, ℕ, ◌<◌, Bool, true, not, IsTrue, IsFalse, IsSome, ◌↔◌, List, [], ◌∷◌, ◌++◌, length, set}
+use Rattle.std.proofs.Common.{All, AllPairs, Contains, inl, inr, ◌⊎◌, refl, sym, ap, ◌∙◌, subst, arith, Some, None, Option, get_or-set_same, get_or-set_other}
 use Rattle.std.specs.Prelude.{◌==◌, is_some}
 use Rattle.std.proofs.lemmas.Bool.{cases_eq, cases_Bool, eq-eqb, ne_eqb, false≢true}
 use Rattle.std.proofs.lemmas.List.Elements.{All-contains, filter_passes}
@@ -274,7 +275,8 @@ module _ (g : Digraph) (is : IsGraph g) (s t : ℕ) (carried needed : Units) (ar
           ]
         ];
         of_link = λ link a e. elim (cases_eq arc.link.0 link) [
-          | inl same ↦ ap (λ (x : Arc). x.link.0) (sym (some-inj arc a (unit_at (set needed arc.link.0 (Some arc)) link) (ap (λ (n : ℕ). unit_at (set needed arc.link.0 (Some arc)) n) (sym same) ∙ some_here) e)) ∙ same
+          | inl same ↦ ap (λ (x : Arc). x.link.0)
+              (sym (some-inj arc a (unit_at (set needed arc.link.0 (Some arc)) link) (ap (λ (n : ℕ). unit_at (set needed arc.link.0 (Some arc)) n) (sym same) ∙ some_here) e)) ∙ same
           | inr ne ↦ w.of_link link a (sym (off_needed link ne) ∙ e)
         ];
       }

@@ -101,6 +101,7 @@ module _ (g : Digraph) (is : IsGraph g) (units : Units) (on : OnArcs g.arcs unit
     opened_as new new_queue new_count (inr finds) = (
       subst (λ (n : List Mark). IsSearch (residual (set units arc.link.0 None) g.arcs) s n new_queue new_count count) (sym finds.marked)
           (subst (λ (q : List ℕ). IsSearch (residual (set units arc.link.0 None) g.arcs) s (set marks arc.head (After arc (depth_of (mark_at marks arc.tail) + 1))) q new_count count) (sym finds.put)
-          (subst (λ (n : ℕ). IsSearch (residual (set units arc.link.0 None) g.arcs) s (set marks arc.head (After arc (depth_of (mark_at marks arc.tail) + 1))) (set queue count arc.head) n count) (sym finds.one_more) opened)),
+          (subst (λ (n : ℕ). IsSearch (residual (set units arc.link.0 None) g.arcs) s (set marks arc.head (After arc (depth_of (mark_at marks arc.tail) + 1)))
+          (set queue count arc.head) n count) (sym finds.one_more) opened)),
       finds.one_more,
     )

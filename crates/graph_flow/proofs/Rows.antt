@@ -1,5 +1,6 @@
 -- How a graph keeps the rows of its nodes.
-use Rattle.std.proofs.Common.{◌≡◌, ◌≢◌, ℕ, ◌+◌, ◌<◌, ◌^◌, max, Bool, true, false, cond, ◌||◌, List, [], ◌∷◌, ◌++◌, length, get_or, set, replicate, All, AllPairs, inl, inr, refl, sym, ap, ◌∙◌, subst, arith, length-set, get_or-set_same, get_or-set_other, append-nil}
+use Rattle.std.proofs.Common.{◌≡◌, ◌≢◌, ℕ, ◌+◌, ◌<◌, ◌^◌, max, Bool, true, false, cond, ◌||◌, List, [], ◌∷◌, ◌++◌, length}
+use Rattle.std.proofs.Common.{get_or, set, replicate, All, AllPairs, inl, inr, refl, sym, ap, ◌∙◌, subst, arith, length-set, get_or-set_same, get_or-set_other, append-nil}
 use Rattle.std.specs.Prelude.{◌==◌}
 use Rattle.std.proofs.lemmas.Bool.{cases_eq, eq-eqb, ne_eqb}
 use Rattle.std.proofs.lemmas.List.{get_or-replicate, length-replicate, set-get_or, set-set}
@@ -70,7 +71,8 @@ rows-more arcs rows arc old lt lh apart node l =
           elim (cases_eq arc.tail node) [
             | inl e ↦
                 let yes_it : touches node arc ≡ true = ap (λ (b : Bool). b || (arc.head == node)) (eq-eqb arc.tail node e) in
-                let at : get_or first node [] ≡ get_or rows arc.tail [] ++ arc ∷ [] = ap (λ (n : ℕ). get_or first n []) (sym e) ∙ get_or-set_same rows arc.tail (get_or rows arc.tail [] ++ arc ∷ []) [] lt in
+                let at : get_or first node [] ≡ get_or rows arc.tail [] ++ arc ∷ [] =
+                ap (λ (n : ℕ). get_or first n []) (sym e) ∙ get_or-set_same rows arc.tail (get_or rows arc.tail [] ++ arc ∷ []) [] lt in
                 new ∙ at ∙ ap (λ (r : List Arc). r ++ arc ∷ []) (ap (λ (n : ℕ). get_or rows n []) e ∙ row)
                 ∙ ap (λ (r : List Arc). touching arcs node ++ r) (sym (pick (touches node arc) true arc yes_it)) ∙ sym split
             | inr not_tail ↦
@@ -85,7 +87,8 @@ pub kept-more : (g h : Inside) (arc : Arc) → IsKept g → Joins (length g.rows
     h.arcs.items ≡ g.arcs.items ++ arc ∷ [] → h.rows.items ≡ with_arc g.rows.items arc → h.links ≡ max g.links (arc.link.0 + 1) → IsKept h
 kept-more g h arc kept joins share arcs rows links =
     let size : length h.rows.items ≡ length g.rows.items =
-    ap length rows ∙ length-set (set g.rows.items arc.tail (get_or g.rows.items arc.tail [] ++ arc ∷ [])) arc.head (get_or (set g.rows.items arc.tail (get_or g.rows.items arc.tail [] ++ arc ∷ [])) arc.head [] ++ arc ∷ [])
+    ap length rows ∙ length-set (set g.rows.items arc.tail (get_or g.rows.items arc.tail [] ++ arc ∷ [])) arc.head (get_or
+    (set g.rows.items arc.tail (get_or g.rows.items arc.tail [] ++ arc ∷ [])) arc.head [] ++ arc ∷ [])
     ∙ length-set g.rows.items arc.tail (get_or g.rows.items arc.tail [] ++ arc ∷ []) in
     let joined : All (Joins (length g.rows.items)) (g.arcs.items ++ arc ∷ []) = All-push (Joins (length g.rows.items)) g.arcs.items arc kept.graph.joined joins in
     let opposite : AllPairs MayShare (g.arcs.items ++ arc ∷ []) = all_pairs_push MayShare g.arcs.items arc kept.graph.opposite share in

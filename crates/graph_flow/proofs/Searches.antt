@@ -1,5 +1,6 @@
 -- How a search goes on: what holds when it begins, after each arc that it follows, and at its end.
-use Rattle.std.proofs.Common.{◌≡◌, ℕ, zero, suc, ◌+◌, ◌*◌, ◌<◌, ◌≤◌, Bool, IsTrue, IsFalse, List, [], ◌∷◌, length, get_or, set, Contains, inl, inr, ◌⊎◌, refl, sym, ap, ◌∙◌, subst, arith, sum_by, length-set, get_or-set_same, get_or-set_other}
+use Rattle.std.proofs.Common.{◌≡◌, ℕ, zero, suc, ◌+◌, ◌*◌, ◌<◌, ◌≤◌, Bool, IsTrue, IsFalse, List, [], ◌∷◌, length}
+use Rattle.std.proofs.Common.{get_or, set, Contains, inl, inr, ◌⊎◌, refl, sym, ap, ◌∙◌, subst, arith, sum_by, length-set, get_or-set_same, get_or-set_other}
 use Rattle.std.specs.Prelude.{slice_index, if◌then◌else◌}
 use Rattle.std.proofs.lemmas.Bool.{cases_eq, cases_lt, false≢true}
 use Rattle.std.proofs.lemmas.List.{get_or_past}
@@ -218,7 +219,8 @@ followed arcs s marks queue count looked arc node new new_queue new_count search
     } in
     subst (λ (n : List Mark). IsFollowed arcs s marks queue count looked arc node n new_queue new_count) (sym marked)
     (subst (λ (q : List ℕ). IsFollowed arcs s marks queue count looked arc node (set marks arc.head (After arc (depth_of (mark_at marks arc.tail) + 1))) q new_count) (sym finds.put)
-    (subst (λ (n : ℕ). IsFollowed arcs s marks queue count looked arc node (set marks arc.head (After arc (depth_of (mark_at marks arc.tail) + 1))) (set queue count arc.head) n) (sym finds.one_more) step))
+    (subst (λ (n : ℕ). IsFollowed arcs s marks queue count looked arc node (set marks arc.head (After arc (depth_of (mark_at marks arc.tail) + 1))) (set queue count arc.head) n)
+    (sym finds.one_more) step))
 
 seen-or-not : (mark : Mark) → IsTrue (is_seen mark) ⊎ (depth_of mark ≡ 0)
 seen-or-not Unseen = inr refl

@@ -1,5 +1,6 @@
 -- Paths taken out of a flow, one after the other.
-use Rattle.std.proofs.Common.{◌≡◌, ◌≢◌, ℕ, zero, suc, ◌+◌, ◌<◌, List, [], ◌∷◌, length, set, map, All, AllPairs, Contains, inl, inr, refl, sym, ap, ◌∙◌, subst, arith, Some, None, Option, filter_map, sum_by, get_or-set_same, get_or-set_other, length-set}
+use Rattle.std.proofs.Common.{◌≡◌, ◌≢◌, ℕ, zero, suc, ◌+◌, ◌<◌, List, [], ◌∷◌, length, set, map, All, AllPairs, Contains}
+use Rattle.std.proofs.Common.{inl, inr, refl, sym, ap, ◌∙◌, subst, arith, Some, None, Option, filter_map, sum_by, get_or-set_same, get_or-set_other, length-set}
 use Rattle.std.proofs.lemmas.Bool.{cases_eq, cases_lt, cases_Bool}
 use Rattle.std.proofs.lemmas.List.{get_or_past, set_past}
 use Rattle.std.proofs.lemmas.List.Elements.{All-contains, All-cons, All-nil, All-head, All-tail, All-map, Contains-append_cases}
@@ -115,7 +116,8 @@ laden arcs over units on sub u v (arc ∷ way) p d =
       apart = AllPairs-cons (λ (a b : Arc). b.link.0 ≡ a.link.0 → ⊥) arc way (All-from_members (λ (b : Arc). b.link.0 ≡ arc.link.0 → ⊥) way (λ b m e.
           let b_on : unit_at units b.link.0 ≡ Some b = All-contains (λ (x : Arc). unit_at units x.link.0 ≡ Some x) way b rest.units_on m in
           let same : arc ≡ b = some-inj arc b (unit_at units b.link.0) (ap (λ (n : ℕ). unit_at units n) e ∙ here_on) b_on in
-          All-contains (λ (x : ℕ). arc.head ≢ x) (map (λ (x : Arc). x.head) way) b.head (AllPairs-head (λ x y. x ≢ y) arc.head (map (λ (x : Arc). x.head) way) tail_d) (head_on_way way b m) (ap (λ (x : Arc). x.head) same))) rest.apart;
+          All-contains (λ (x : ℕ). arc.head ≢ x) (map (λ (x : Arc). x.head) way) b.head (AllPairs-head (λ x y. x ≢ y) arc.head (map (λ (x : Arc). x.head) way) tail_d)
+          (head_on_way way b m) (ap (λ (x : Arc). x.head) same))) rest.apart;
     }
 
 -- a flow without the units of such a way from s to t is one of a unit less
@@ -185,7 +187,13 @@ decomposed g s t is ls lt (suc many) units flow =
       right = record {
         count = ap suc rest.right.count;
         each = All-cons (λ path. IsPath g.arcs s path t) (links_of one.way) rest.paths
-            (record { way = one.way; of_links = refl; leads = Path-over (carried units) g.arcs (λ arc m. let at = carried-at units arc m in on.is_arc at.0 arc at.1) s t one.way one.leads; once = one.once })
+            (record {
+              way = one.way;
+              of_links = refl;
+              leads = Path-over (carried units) g.arcs
+                  (λ arc m. let at = carried-at units arc m in on.is_arc at.0 arc at.1) s t one.way one.leads;
+              once = one.once;
+            })
             rest.right.each;
         disjoint = AllPairs-append (λ (k l : Link). k ≢ l) (links_of one.way) (all_links rest.paths) (laden-different one.way load.apart) rest.right.disjoint
             (λ k l m n e. let later = rest.laden_links l n in is-none later.0 (unit_at (cleared units (links_of one.way)) l.0)

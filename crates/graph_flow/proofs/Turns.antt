@@ -1,5 +1,6 @@
 -- One more unit over an arc, and over the arcs of a way: what it changes at each node and each link.
-use Rattle.std.proofs.Common.{◌≡◌, ℕ, ◌+◌, ◌<◌, ◌≤◌, List, [], ◌∷◌, ◌++◌, length, set, All, AllPairs, Contains, inl, inr, ◌⊎◌, refl, sym, ap, ◌∙◌, subst, arith, Some, None, Option, sum_by, get_or-set_same, get_or-set_other, length-set}
+use Rattle.std.proofs.Common.{◌≡◌, ℕ, ◌+◌, ◌<◌, ◌≤◌, List, [], ◌∷◌, ◌++◌, length, set, All, AllPairs, Contains, inl}
+use Rattle.std.proofs.Common.{inr, ◌⊎◌, refl, sym, ap, ◌∙◌, subst, arith, Some, None, Option, sum_by, get_or-set_same, get_or-set_other, length-set}
 use Rattle.std.specs.Prelude.{◌==◌, if◌then◌else◌}
 use Rattle.std.proofs.lemmas.List.Sums.{sum_by-set}
 use Rattle.std.proofs.lemmas.List.Elements.{All-contains, All-head, All-tail}
@@ -159,7 +160,8 @@ OnArcs-sent arcs units (arc ∷ way) on r =
     OnArcs-turn arcs (sent units way) arc (OnArcs-sent arcs units way on (IsRoute-rest arcs units arc way r)) (place_left arcs units arc way r) (room_left arcs units arc way r)
 
 -- a way that does not come to a node brings no unit into it
-pub entering-turn : (arcs : List Arc) (units : Units) (arc : Arc) (node : ℕ) → arc.link.0 < length units → HasRoom arcs units arc → (arc.head ≡ node → ⊥) → entering (turn units arc) node ≤ entering units node
+pub entering-turn : (arcs : List Arc) (units : Units) (arc : Arc) (node : ℕ) → arc.link.0 < length units → HasRoom arcs units arc → (arc.head ≡ node → ⊥) →
+    entering (turn units arc) node ≤ entering units node
 entering-turn arcs units arc node l (inl none) ne =
     let into : entering (set units arc.link.0 (Some arc)) node + 0 ≡ entering units node + here arc.head node = sum-entry (unit_to node) units arc.link.0 None (Some arc) l none.0 in
     let off : here arc.head node ≡ 0 = ap (λ b. if b then 1 else 0) (ne_eqb arc.head node ne) in

@@ -93,7 +93,8 @@ simple_way arcs u v (arc ∷ way) p =
       | inr out ↦ record {
         way = arc ∷ rest.way;
         leads = (p.0, p.1, rest.leads);
-        once = AllPairs-cons (λ a b. a ≢ b) u (nodes_of arc.head rest.way) (All-from_members (λ x. u ≢ x) (nodes_of arc.head rest.way) (λ x m e. out (subst (λ (n : ℕ). Contains (nodes_of arc.head rest.way) n) (sym e) m))) rest.once;
+        once = AllPairs-cons (λ a b. a ≢ b) u (nodes_of arc.head rest.way)
+            (All-from_members (λ x. u ≢ x) (nodes_of arc.head rest.way) (λ x m e. out (subst (λ (n : ℕ). Contains (nodes_of arc.head rest.way) n) (sym e) m))) rest.once;
       }
     ]
 

@@ -1,4 +1,5 @@
 pub mod Paths
+pub mod OpenLinks
 pub mod Sides
 pub mod Flows
 pub mod Laws

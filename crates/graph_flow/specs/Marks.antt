@@ -119,3 +119,10 @@ abbrev pub Follows : List Mark → List ℕ → ℕ → Arc → ℕ → List Mar
 Follows marks queue count arc node new_marks new_queue new_count =
     Stays marks queue count arc node new_marks new_queue new_count ⊎
     Finds marks queue count arc node new_marks new_queue new_count
+
+-- what a search does with what an arc gives: it follows it, or does nothing where that is none
+abbrev pub Steps : Option Arc → List Mark → List ℕ → ℕ → ℕ → List Mark → List ℕ → ℕ → Type 0
+Steps None marks queue count node new_marks new_queue new_count =
+    (new_marks ≡ marks) × (new_queue ≡ queue) × (new_count ≡ count)
+Steps (Some arc) marks queue count node new_marks new_queue new_count =
+    Follows marks queue count arc node new_marks new_queue new_count

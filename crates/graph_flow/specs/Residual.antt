@@ -1,8 +1,8 @@
 -- Where one more unit can go: the arcs of the residual network of a flow. Contracts of helpers cite
 -- these.
-use Rattle.std.specs.Prelude.{ℕ, ◌≡◌, ◌+◌, Contains, IsSome, ◌==◌, ◌||◌, Bool, if◌then◌else◌, List}
-use Rattle.std.specs.Prelude.{slice_set, filter, filter_map, Option, Some, None, [], ◌∷◌, ◌++◌}
-use Rattle.std.specs.Prelude.{slice_index_or, not}
+use Rattle.std.specs.Prelude.{ℕ, ◌≡◌, ◌+◌, Contains, IsSome, ◌==◌, ◌&&◌, ◌||◌, Bool, if◌then◌else◌}
+use Rattle.std.specs.Prelude.{List, slice_set, filter, filter_map, Option, Some, None, [], ◌∷◌}
+use Rattle.std.specs.Prelude.{◌++◌, slice_index_or, not}
 use Rattle.arc_base.specs.declared.place.Link.{Link}
 use Rattle.graph_flow.specs.declared.arcs.Arc.{Arc}
 use Rattle.graph_flow.specs.Paths.{IsPath}
@@ -70,6 +70,15 @@ leaving_arc node (Some arc) = if arc.tail == node then Some arc else None
 abbrev pub passed_by : Arc → Option Arc → Option Arc
 passed_by first None = None
 passed_by first (Some arc) = if may_pass first arc then Some arc else None
+
+-- the arc, if its link carries a unit over it and the path may go over it
+abbrev pub laden_arc : Option Arc → Arc → Arc → Option Arc
+laden_arc None first arc = None
+laden_arc (Some used) first arc =
+    if (used.head == arc.head) && may_pass first arc then Some arc else None
+
+abbrev pub unit_of : Units → Arc → Arc → Option Arc
+unit_of units first arc = laden_arc (unit_at units arc.link.0) first arc
 
 -- the arcs of units that the path may go over
 abbrev pub passable : Units → Arc → List Arc

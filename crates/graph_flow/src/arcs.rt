@@ -12,6 +12,14 @@ pub struct Arc {
     pub cost: u32,
 }
 
+/// Which arcs of a link may be gone over: that to a node with a higher number, and that to one with
+/// a lower.
+#[derive(Clone, Copy, Debug, PartialEq, Eq)]
+pub struct OpenLink {
+    pub up: bool,
+    pub down: bool,
+}
+
 /// The links of a path, from its first node to its last.
 #[derive(Debug, Drop)]
 pub struct LinkRow2 {

@@ -1,11 +1,12 @@
 //! Which nodes paths reach from a node, and one path to each.
+ghost use Rattle.arc_base.specs.declared.place.Link.{Link};
+ghost use Rattle.graph_flow.specs.Marks.{AreSteps, depth_of, mark_at, way_to};
+ghost use Rattle.graph_flow.specs.OpenLinks.{open_arcs};
+ghost use Rattle.graph_flow.specs.Paths.{Leads, IsPath, links_of};
 ghost use Rattle.std.specs.Prelude.{◌≡◌, ℕ, ◌<◌, length, IfOk, IsSome, IsTrue, Some, None, Option};
 ghost use Rattle.std.specs.Prelude.{List, ◌↔◌, ◌^◌, slice_index_or, replicate, reverse, vec_len};
-ghost use Rattle.graph_flow.specs.Paths.{Leads, IsPath, links_of};
-ghost use Rattle.graph_flow.specs.Marks.{AreSteps, depth_of, mark_at, way_to};
-ghost use Rattle.arc_base.specs.declared.place.Link.{Link};
 
-use crate::arcs::{Arc, LinkRow2};
+use crate::arcs::{Arc, LinkRow2, OpenLink};
 use crate::graph::Graph;
 use crate::search::{Mark, Search};
 use arc_base::{List, Memory};
@@ -20,13 +21,13 @@ pub struct Closure {
 }
 
 impl Model for Closure {
-    ghost use Rattle.std.specs.Prelude.{List, Option};
     ghost use Rattle.arc_base.specs.declared.place.Link.{Link};
+    ghost use Rattle.std.specs.Prelude.{List, Option};
 
     ghost Value = { List (Option (List Link)) };
 
-    ghost use Rattle.graph_flow.specs.Marks.{paths_by};
     ghost use Rattle.graph_flow.specs.Kept.{IsKeptClosure};
+    ghost use Rattle.graph_flow.specs.Marks.{paths_by};
 
     ghost view = { λ c. paths_by c.search.marks.items };
 
@@ -54,6 +55,22 @@ impl Closure {
             slice_index_or self.new node None ≡ Some links → IsPath g.now.arcs from links node }
     {
         self.search.run(g, &[], from);
+    }
+
+    /// Reaches the nodes to which paths of open arcs lead from a node, and no others. It takes no
+    /// memory.
+    pub fn spread_open(&mut self, g: &Graph, table: &[OpenLink], from: u32)
+        requires from { from < g.now.nodes }
+        requires graph { length self.old ≡ g.now.nodes }
+        ensures room { length self.new ≡ length self.old }
+        ensures reached { (node : ℕ) → node < g.now.nodes →
+            IsSome (slice_index_or self.new node None)
+            ↔ Leads (open_arcs table.now g.now.arcs) from node }
+        ensures paths { (node : ℕ) (links : List Link) →
+            slice_index_or self.new node None ≡ Some links →
+            IsPath (open_arcs table.now g.now.arcs) from links node }
+    {
+        self.search.run_open(g, table, from);
     }
 
     /// Whether a path leads to the node.
@@ -93,7 +110,7 @@ pub(crate) fn arcs_back(alloc: Global, marks: &[Mark], node: u32) -> Result<Vec<
 }
 
 /// The links of these arcs in the other order.
-fn turned_round(alloc: Global, mut back: Vec<Arc>) -> Result<LinkRow2, Memory>
+pub(crate) fn turned_round(alloc: Global, mut back: Vec<Arc>) -> Result<LinkRow2, Memory>
     requires { vec_len back < 2 ^ 32 }
     ensures { IfOk result (λ path. path.links ≡ links_of (reverse back.items)) }
 {

@@ -1,14 +1,14 @@
 //! Link-disjoint paths between two nodes, or the cut that rules them out (Menger's theorem): a flow
 //! grows by one augmenting path for each of them.
-ghost use Rattle.std.specs.Prelude.{◌≡◌, ◌≢◌, ℕ, ◌≤◌, ◌<◌, ◌+◌, ◌-◌, ◌^◌, length, IfOk, IsTrue};
-ghost use Rattle.std.specs.Prelude.{IsFalse, Some};
-ghost use Rattle.graph_flow.specs.Paths.{AreDisjointPaths};
-ghost use Rattle.graph_flow.specs.Sides.{IsLeastSide};
+ghost use Rattle.graph_flow.specs.Answers.{IfPaths, IfCut, AreInOrder};
 ghost use Rattle.graph_flow.specs.Flows.{IsFlow, IsMadeFor, EndsAt, leaving, flagged, links_out};
 ghost use Rattle.graph_flow.specs.Flows.{out_link, unit_at, AreWithin};
 ghost use Rattle.graph_flow.specs.Laws.{HavePaths};
-ghost use Rattle.graph_flow.specs.Answers.{IfPaths, IfCut, AreInOrder};
+ghost use Rattle.graph_flow.specs.Paths.{AreDisjointPaths};
+ghost use Rattle.graph_flow.specs.Sides.{IsLeastSide};
 ghost use Rattle.graph_flow.specs.declared.arcs.Arc.{Arc};
+ghost use Rattle.std.specs.Prelude.{◌≡◌, ◌≢◌, ℕ, ◌≤◌, ◌<◌, ◌-◌, ◌^◌, length, IfOk, IsTrue, IsFalse};
+ghost use Rattle.std.specs.Prelude.{Some};
 
 use crate::answer::FlowAnswer;
 use crate::arcs::Arc;

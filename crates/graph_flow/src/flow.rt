@@ -1,10 +1,10 @@
 //! Flows that grow unit by unit, each along an augmenting path: over links that have room for it. A
 //! unit more costs one breadth-first search.
-ghost use Rattle.std.specs.Prelude.{◌≡◌, ◌≢◌, ℕ, ◌<◌, ◌+◌, length, IfOk, IsTrue, IsFalse, ◌↔◌};
 ghost use Rattle.graph_flow.specs.Flows.{IsFlow, IsGreatest, IsMadeFor, EndsAt, leaving, flagged};
 ghost use Rattle.graph_flow.specs.Marks.{AreSteps, mark_at, way_to};
 ghost use Rattle.graph_flow.specs.Residual.{sent};
 ghost use Rattle.graph_flow.specs.declared.arcs.Arc.{Arc};
+ghost use Rattle.std.specs.Prelude.{◌≡◌, ◌≢◌, ℕ, ◌<◌, ◌+◌, length, IfOk, IsTrue, IsFalse, ◌↔◌};
 
 use crate::arcs::Arc;
 use crate::graph::Graph;
@@ -23,8 +23,8 @@ pub struct Flow {
 }
 
 impl Model for Flow {
-    ghost use Rattle.std.specs.Prelude.{◌≡◌, map, length};
     ghost use Rattle.graph_flow.specs.Flows.{FlowState};
+    ghost use Rattle.std.specs.Prelude.{◌≡◌, map, length};
 
     ghost Value = { FlowState };
 

@@ -1,8 +1,8 @@
 //! Directed graphs whose arcs belong to links, as the rest of the crate walks them.
-ghost use Rattle.std.specs.Prelude.{◌≡◌, ◌≢◌, ◌<◌, ◌^◌, [], ◌∷◌, ◌++◌, length, IfOk, OnOk, OnErr};
-ghost use Rattle.std.specs.Prelude.{All, IsTrue, ◌↔◌};
 ghost use Rattle.graph_flow.specs.Paths.{Joins, MayShare, IsGraph, Digraph};
 ghost use Rattle.graph_flow.specs.Residual.{touching, with_arc};
+ghost use Rattle.std.specs.Prelude.{◌≡◌, ◌≢◌, ◌<◌, ◌^◌, [], ◌∷◌, ◌++◌, length, IfOk, OnOk, OnErr};
+ghost use Rattle.std.specs.Prelude.{All, IsTrue, ◌↔◌};
 
 use crate::arcs::Arc;
 use crate::row::Row;

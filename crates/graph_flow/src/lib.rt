@@ -14,13 +14,15 @@ mod flow;
 mod graph;
 pub mod laws;
 mod needed;
+mod open_links;
+mod part_search;
 mod residual;
 mod row;
 mod search;
 mod units;
 
 pub use answer::FlowAnswer;
-pub use arcs::{Arc, LinkRow2};
+pub use arcs::{Arc, LinkRow2, OpenLink};
 pub use closure::Closure;
 pub use disjoint_paths::disjoint;
 pub use flow::Flow;

@@ -1,12 +1,12 @@
 //! The links without which no path leads from one node to another.
-ghost use Rattle.std.specs.Prelude.{◌≡◌, ◌↔◌, ℕ, ◌<◌, IfOk, OnOk, IsTrue, IsSome, Some, None};
-ghost use Rattle.std.specs.Prelude.{AllPairs, Contains, vec_len, ◌++◌, ◌∷◌, [], ◌^◌, All, length};
-ghost use Rattle.graph_flow.specs.Paths.{IsGraph};
+ghost use Rattle.arc_base.specs.declared.place.Link.{Link};
 ghost use Rattle.graph_flow.specs.Flows.{unit_at};
 ghost use Rattle.graph_flow.specs.Marks.{is_seen, mark_at, IsSpread};
 ghost use Rattle.graph_flow.specs.Needed.{IsNeeded, IsNeededAnswer};
+ghost use Rattle.graph_flow.specs.Paths.{IsGraph};
 ghost use Rattle.graph_flow.specs.declared.arcs.Arc.{Arc};
-ghost use Rattle.arc_base.specs.declared.place.Link.{Link};
+ghost use Rattle.std.specs.Prelude.{◌≡◌, ◌↔◌, ℕ, ◌<◌, IfOk, OnOk, IsTrue, IsSome, Some, None};
+ghost use Rattle.std.specs.Prelude.{AllPairs, Contains, vec_len, ◌++◌, ◌∷◌, [], ◌^◌, All, length};
 
 use crate::arcs::Arc;
 use crate::closure::arcs_back;

@@ -1,7 +1,7 @@
 //! The residual graph of a flow: the room that links have for one more unit, and how that unit is
 //! sent.
+ghost use Rattle.graph_flow.specs.Residual.{residual_of, unit_of, may_pass, reversed, turn};
 ghost use Rattle.std.specs.Prelude.{◌≡◌, ◌<◌, length};
-ghost use Rattle.graph_flow.specs.Residual.{residual_of, reversed, turn};
 
 use crate::arcs::Arc;
 
@@ -20,6 +20,27 @@ pub(crate) fn residual_of(carried: &[Option<Arc>], arc: &Arc) -> Option<Arc>
         Some(used) if used.head == arc.head => Some(reversed(&used)),
         Some(_) => None,
     }
+}
+
+/// The arc, if its link carries a unit over it and a path of units that begins with the first arc
+/// may go over it.
+pub(crate) fn unit_of(carried: &[Option<Arc>], first: &Arc, arc: &Arc) -> Option<Arc>
+    ensures { result ≡ unit_of carried.now first.now arc.now }
+{
+    let link = arc.link.0 as usize;
+    if link >= carried.len() {
+        return None;
+    }
+    match carried[link] {
+        Some(used) if used.head == arc.head && may_pass(first, arc) => Some(*arc),
+        _ => None,
+    }
+}
+
+fn may_pass(first: &Arc, arc: &Arc) -> bool
+    ensures { result ≡ may_pass first.now arc.now }
+{
+    arc.tail != first.tail || arc.link.0 == first.link.0
 }
 
 fn reversed(arc: &Arc) -> Arc

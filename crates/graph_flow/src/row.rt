@@ -1,7 +1,6 @@
 //! The arcs at one node, kept without an allocation where they are few.
-ghost use Rattle.std.specs.Prelude.{◌≡◌, ◌-◌, ◌<◌, [], ◌∷◌, ◌++◌, length, take, OnOk, OnErr};
-ghost use Rattle.std.specs.Prelude.{slice_set, slice_index_or, List as Items};
 ghost use Rattle.graph_flow.specs.declared.arcs.Arc.{Arc};
+ghost use Rattle.std.specs.Prelude.{◌≡◌, ◌-◌, ◌<◌, [], ◌∷◌, ◌++◌, OnOk, OnErr, List as Items};
 
 use crate::arcs::Arc;
 use arc_base::Memory;
@@ -17,8 +16,8 @@ pub(crate) struct Row {
 }
 
 impl Model for Row {
-    ghost use Rattle.std.specs.Prelude.{List};
     ghost use Rattle.graph_flow.specs.declared.arcs.Arc.{Arc};
+    ghost use Rattle.std.specs.Prelude.{List};
 
     ghost Value = { List Arc };
 

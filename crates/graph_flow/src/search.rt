@@ -1,13 +1,13 @@
 //! Breadth-first search for what can be reached over links that have room, in time linear in nodes
 //! and arcs.
-ghost use Rattle.std.specs.Prelude.{◌≡◌, ◌≤◌, ◌<◌, ◌+◌, ◌^◌, length, IfOk, IsTrue, IsFalse};
-ghost use Rattle.std.specs.Prelude.{replicate, List, vec_len, ℕ, Contains, Some, None, slice_set};
-ghost use Rattle.graph_flow.specs.Paths.{IsGraph};
 ghost use Rattle.graph_flow.specs.Flows.{unit_at};
-ghost use Rattle.graph_flow.specs.Residual.{residual};
 ghost use Rattle.graph_flow.specs.Marks.{is_seen, depth_of, mark_at, IsMarked, IsSpread, IsSearch};
-ghost use Rattle.graph_flow.specs.Marks.{Follows};
+ghost use Rattle.graph_flow.specs.Marks.{Follows, Steps};
+ghost use Rattle.graph_flow.specs.Paths.{IsGraph};
+ghost use Rattle.graph_flow.specs.Residual.{residual, residual_of};
 ghost use Rattle.graph_flow.specs.declared.arcs.Arc.{Arc};
+ghost use Rattle.std.specs.Prelude.{◌≡◌, ◌≢◌, ◌≤◌, ◌<◌, ◌+◌, ◌^◌, IfOk, IsTrue, IsFalse, replicate};
+ghost use Rattle.std.specs.Prelude.{List, vec_len, ℕ, Contains, Some, None, slice_set};
 
 use crate::arcs::Arc;
 use crate::graph::Graph;
@@ -179,7 +179,7 @@ impl Search {
     }
 
     /// Forgets what was found, and begins at a node.
-    fn begin(&mut self, from: u32)
+    pub(crate) fn begin(&mut self, from: u32)
         requires marks { from < vec_len self.old.marks }
         requires queue { vec_len self.old.queue ≡ vec_len self.old.marks }
         ensures search { (arcs : List Arc) →
@@ -219,11 +219,62 @@ impl Search {
         let node = self.queue[looked];
         let mut count = count;
         for arc in g.touching(node) {
-            if let Some(next) = residual_of(carried, arc) {
-                count = self.follow(next, node, count);
-            }
+            count = self.step(carried, arc, node, count);
         }
         count
+    }
+
+    /// Follows what an arc gives that begins or ends at the node. Mostly it leads to a node that was
+    /// seen before, which is found without a look at what its link carries.
+    fn step(&mut self, carried: &[Option<Arc>], arc: &Arc, node: u32, count: usize) -> usize
+        requires apart { arc.now.tail ≢ arc.now.head }
+        requires within { arc.now.head < vec_len self.old.marks }
+        requires head { (next : Arc) → residual_of carried.now arc.now ≡ Some next →
+            next.head < vec_len self.old.marks }
+        requires node { IsTrue (is_seen (mark_at self.old.marks.items node)) }
+        requires shallow { depth_of (mark_at self.old.marks.items node) < count }
+        requires queue { vec_len self.old.queue ≡ vec_len self.old.marks }
+        requires few { vec_len self.old.marks < 2 ^ 32 }
+        requires room { (head : ℕ) → head < vec_len self.old.marks →
+            IsFalse (is_seen (mark_at self.old.marks.items head)) → count < vec_len self.old.queue }
+        ensures steps { Steps (residual_of carried.now arc.now) self.old.marks.items
+            self.old.queue.items count node self.new.marks.items self.new.queue.items result }
+        ensures marks { vec_len self.new.marks ≡ vec_len self.old.marks }
+        ensures queue { vec_len self.new.queue ≡ vec_len self.old.queue }
+    {
+        if self.is_behind(arc, node) {
+            return count;
+        }
+        self.follow_some(residual_of(carried, arc), node, count)
+    }
+
+    /// Follows the arc, if there is one.
+    pub(crate) fn follow_some(&mut self, next: Option<Arc>, node: u32, count: usize) -> usize
+        requires head { (arc : Arc) → next ≡ Some arc → arc.head < vec_len self.old.marks }
+        requires node { IsTrue (is_seen (mark_at self.old.marks.items node)) }
+        requires shallow { depth_of (mark_at self.old.marks.items node) < count }
+        requires queue { vec_len self.old.queue ≡ vec_len self.old.marks }
+        requires few { vec_len self.old.marks < 2 ^ 32 }
+        requires room { (head : ℕ) → head < vec_len self.old.marks →
+            IsFalse (is_seen (mark_at self.old.marks.items head)) → count < vec_len self.old.queue }
+        ensures steps { Steps next self.old.marks.items self.old.queue.items count node
+            self.new.marks.items self.new.queue.items result }
+        ensures marks { vec_len self.new.marks ≡ vec_len self.old.marks }
+        ensures queue { vec_len self.new.queue ≡ vec_len self.old.queue }
+    {
+        match next {
+            Some(arc) => self.follow(arc, node, count),
+            None => count,
+        }
+    }
+
+    /// Whether the arc leads from the node to one that was seen.
+    fn is_behind(&self, arc: &Arc, node: u32) -> bool
+        requires { arc.now.head < vec_len self.now.marks }
+        ensures { IsTrue result →
+            (arc.now.tail ≡ node) × IsTrue (is_seen (mark_at self.now.marks.items arc.now.head)) }
+    {
+        arc.tail == node && self.is_seen(arc.head)
     }
 
     /// Adds the head of an arc to the queue, where the arc leads from the node and its head was

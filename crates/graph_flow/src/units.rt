@@ -1,14 +1,14 @@
 //! Taking a flow apart into link-disjoint paths.
-ghost use Rattle.std.specs.Prelude.{◌≡◌, ◌≢◌, ℕ, ◌<◌, ◌^◌, length, All, IfOk, Some};
-ghost use Rattle.graph_flow.specs.Paths.{Joins, AreDisjointPaths};
-ghost use Rattle.graph_flow.specs.Flows.{IsFlow, unit_at, leaving};
-ghost use Rattle.graph_flow.specs.Residual.{passable, passed_by, leaving_arc, cleared, TakesPath};
 ghost use Rattle.graph_flow.specs.Answers.{rows_of, AreInOrder};
-ghost use Rattle.graph_flow.specs.declared.arcs.Arc.{Arc};
+ghost use Rattle.graph_flow.specs.Flows.{IsFlow, unit_at, leaving};
+ghost use Rattle.graph_flow.specs.Paths.{AreDisjointPaths};
+ghost use Rattle.graph_flow.specs.Residual.{leaving_arc, cleared, TakesPath};
+ghost use Rattle.std.specs.Prelude.{◌≡◌, ◌≢◌, ◌<◌, ◌^◌, length, All, IfOk, Some, vec_len};
 
 use crate::arcs::{Arc, LinkRow2};
-use crate::closure::Closure;
+use crate::closure::{arcs_back, turned_round};
 use crate::graph::Graph;
+use crate::search::Search;
 use arc_base::{Link, List, Memory};
 use std::alloc::Global;
 
@@ -29,10 +29,11 @@ pub(crate) fn into_paths(
         AreDisjointPaths g.now.arcs s t (leaving units.old s) (rows_of paths)) }
     ensures order { IfOk result (λ paths. AreInOrder (rows_of paths)) }
 {
+    let mut search = Search::make(alloc, g.nodes())?;
     let mut paths = List::make(alloc);
     for link in 0..units.len() {
         if let Some(first) = leaving_arc(&units[link], s) {
-            let path = take_path(alloc, g, units, first, t)?;
+            let path = take_path(alloc, g, units, first, t, &mut search)?;
             paths.push(path)?;
         }
     }
@@ -56,46 +57,25 @@ fn take_path(
     units: &mut [Option<Arc>],
     first: Arc,
     t: u32,
+    search: &mut Search,
 ) -> Result<LinkRow2, Memory>
     requires target { t < g.now.nodes }
     requires apart { first.tail ≢ t }
     requires flow { IsFlow g.now.arcs first.tail t (leaving units.old first.tail) units.old }
     requires first { unit_at units.old first.link.0 ≡ Some first }
-    ensures { IfOk result (λ path. TakesPath g.now.arcs first t units.old path.links units.new) }
+    requires marks { vec_len search.old.marks ≡ g.now.nodes }
+    requires queue { vec_len search.old.queue ≡ g.now.nodes }
+    ensures path { IfOk result
+        (λ path. TakesPath g.now.arcs first t units.old path.links units.new) }
+    ensures marks { vec_len search.new.marks ≡ g.now.nodes }
+    ensures queue { vec_len search.new.queue ≡ g.now.nodes }
 {
-    let ways = passable(alloc, units, g.nodes(), first)?;
-    let mut closure = Closure::make(alloc, &ways)?;
-    closure.spread(&ways, first.tail);
-    let path = closure.path(alloc, t)?;
+    prove!(t < g.nodes());
+    search.seek_units(g, units, &first, t);
+    let back = arcs_back(alloc, &search.marks, t)?;
+    let path = turned_round(alloc, back)?;
     clear(units, path.links.slice());
     Ok(path)
-}
-
-/// The graph of the arcs that carry units, without those that leave the tail of the given one
-/// beside it.
-fn passable(alloc: Global, units: &[Option<Arc>], nodes: u32, first: Arc) -> Result<Graph, Memory>
-    requires joins { (link : ℕ) (arc : Arc) → unit_at units.now link ≡ Some arc → Joins nodes arc }
-    requires of_link { (link : ℕ) (arc : Arc) →
-        unit_at units.now link ≡ Some arc → arc.link.0 ≡ link }
-    ensures { IfOk result (λ g. g ≡ record { nodes = nodes; arcs = passable units.now first }) }
-{
-    let mut g = Graph::make(alloc, nodes)?;
-    for unit in units {
-        if let Some(arc) = passed_by(&first, unit) {
-            g.arc(arc)?;
-        }
-    }
-    Ok(g)
-}
-
-/// The arc of a unit, where a path that begins with the first arc may go over it.
-fn passed_by(first: &Arc, unit: &Option<Arc>) -> Option<Arc>
-    ensures { result ≡ passed_by first.now unit.now }
-{
-    match unit {
-        Some(arc) if arc.tail != first.tail || arc.link.0 == first.link.0 => Some(*arc),
-        _ => None,
-    }
 }
 
 /// Takes the units over these links away.

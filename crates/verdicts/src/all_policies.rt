@@ -1,11 +1,11 @@
 //! The verdicts on all policies of a document.
-ghost use Rattle.std.specs.Prelude.{◌≡◌, All, IfOk};
-ghost use Rattle.std.specs.List.{AllZip, list_all};
+ghost use Rattle.net_model.specs.Forwarding.{HasEnds};
 ghost use Rattle.net_model.specs.Packets.{subject};
 ghost use Rattle.net_model.specs.Policies.{HasFewFailures};
 ghost use Rattle.net_model.specs.Validity.{IsValid};
-ghost use Rattle.net_model.specs.Forwarding.{HasEnds};
 ghost use Rattle.net_model.specs.Witnesses.{IsRight, is_yes};
+ghost use Rattle.std.specs.List.{AllZip, list_all};
+ghost use Rattle.std.specs.Prelude.{◌≡◌, All, IfOk};
 ghost use Rattle.verdicts.specs.Fixed.{IsFixed};
 ghost use Rattle.verdicts.specs.Judged.{HasFewClassesEach};
 

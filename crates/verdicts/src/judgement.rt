@@ -1,25 +1,27 @@
 //! The verdict on a policy by its kind.
-ghost use Rattle.std.specs.Prelude.{◌<◌, length, slice_get, Contains, IfOk, IfErr, IfSome};
-ghost use Rattle.std.specs.Option.{ForSome};
-ghost use Rattle.net_model.specs.declared.policies.Class.{Class as AnyClass};
-ghost use Rattle.net_model.specs.Packets.{subject};
-ghost use Rattle.net_model.specs.Validity.{IsValid};
-ghost use Rattle.net_model.specs.Forwarding.{Ends, HasEnds};
-ghost use Rattle.net_model.specs.Witnesses.{IsRight};
 ghost use Rattle.class_graph.specs.Classes.{AreAllUniform};
 ghost use Rattle.class_graph.specs.Hosts.{IsHostPair, HasHostPair};
 ghost use Rattle.class_graph.specs.LastGraphs.{IsGraphOfTable};
+ghost use Rattle.net_model.specs.Forwarding.{Ends, HasEnds};
+ghost use Rattle.net_model.specs.Packets.{subject};
+ghost use Rattle.net_model.specs.Policies.{HasFewFailures};
+ghost use Rattle.net_model.specs.Validity.{IsValid};
+ghost use Rattle.net_model.specs.Witnesses.{IsRight};
+ghost use Rattle.net_model.specs.declared.policies.Class.{Class as AnyClass};
+ghost use Rattle.std.specs.Option.{ForSome};
+ghost use Rattle.std.specs.Prelude.{◌<◌, length, slice_get, Contains, IfOk, IfErr, IfSome};
 ghost use Rattle.traffic_classes.specs.Classes.{AreMarks, HasClasses};
 ghost use Rattle.traffic_classes.specs.Parts.{MakeUp};
 ghost use Rattle.verdicts.specs.Fixed.{IsFixed};
 ghost use Rattle.verdicts.specs.Judged.{CountsMore, HasFewClassesEach, IsVerdict};
-ghost use Rattle.net_model.specs.Policies.{HasFewFailures};
 
 use crate::blocking::judge_blocking;
 use crate::fault::JudgeFault;
 use crate::reach::judge_reach;
 use arc_base::{List, Memory};
-use class_graph::{HostPair, LastGraph, host_pair};
+use class_graph::{
+    HostPair, LastGraph, graph_in, host_pair, host_pair_by, listed_in, refresh_graph,
+};
 use net_model::{Class, Network, Policy, PolicyKind, Verdict};
 use std::alloc::Global;
 use traffic_classes::Marks;
@@ -79,7 +81,7 @@ pub fn judge_few(
     ensures last { IfSome last.new (IsGraphOfTable net.now) }
 {
     let parts = marks.split(alloc, policy)?;
-    let pair = host_pair(alloc, net, policy.subject())?;
+    let pair = host_pair_by(alloc, net, policy.subject(), last)?;
     let verdict = judge_classes(alloc, net, &pair, &parts, policy.kind, last)?;
     Ok(verdict)
 }
@@ -103,9 +105,14 @@ fn judge_classes(
         MakeUp net.now whole parts.now → IsVerdict net.now ends kind whole parts.now v) }
     ensures last { IfSome last.new (IsGraphOfTable net.now) }
 {
+    refresh_graph(alloc, net, pair, last)?;
+    let graph = graph_in(last);
+    let listed = listed_in(last);
     match kind {
-        PolicyKind::Blocked => judge_blocking(alloc, net, pair, parts, kind),
-        PolicyKind::Through => judge_blocking(alloc, net, pair, parts, kind),
-        PolicyKind::Reach(failures) => judge_reach(alloc, net, pair, parts, failures, last),
+        PolicyKind::Blocked => judge_blocking(alloc, net, pair, graph, parts, kind),
+        PolicyKind::Through => judge_blocking(alloc, net, pair, graph, parts, kind),
+        PolicyKind::Reach(failures) => {
+            judge_reach(alloc, net, pair, graph, listed, parts, failures)
+        }
     }
 }

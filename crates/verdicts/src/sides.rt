@@ -1,20 +1,25 @@
 //! The routers that the packets of a class get to.
+ghost use Rattle.class_graph.specs.Parts.{part_of};
 ghost use Rattle.std.specs.Prelude.{◌≡◌, ◌<◌, length, map, is_some, IfOk};
 ghost use Rattle.verdicts.specs.Sides.{IsReached};
 
 use arc_base::{List, Memory};
-use class_graph::ClassGraph;
-use graph_flow::Closure;
+use class_graph::ClassPart;
+use graph_flow::{Closure, Graph};
 use std::alloc::Global;
 
 /// The routers that the packets of a class get to, if they enter.
-pub(crate) fn reached_from_source(alloc: Global, graph: &ClassGraph) -> Result<Closure, Memory>
-    requires { graph.now.source.0 < graph.now.graph.nodes }
-    ensures { IfOk result (IsReached graph.now) }
+pub(crate) fn reached_from_source(
+    alloc: Global,
+    graph: &Graph,
+    part: &ClassPart,
+) -> Result<Closure, Memory>
+    requires { part.now.source.0 < graph.now.nodes }
+    ensures { IfOk result (IsReached (part_of graph.now part.now)) }
 {
-    let mut closure = Closure::make(alloc, &graph.graph)?;
-    if graph.enters {
-        closure.spread(&graph.graph, graph.source.0);
+    let mut closure = Closure::make(alloc, graph)?;
+    if part.enters {
+        closure.spread_open(graph, part.table.slice(), part.source.0);
     }
     Ok(closure)
 }

@@ -1,10 +1,6 @@
-use Rattle.class_graph.proofs.LastGraphs.{of_table, serving}
+use Rattle.class_graph.proofs.LastGraphs.{serving}
 use Rattle.class_graph.proofs.last_graph.refresh_graph.Goals as goal
 
 pub returns-then-serves-clause-graph : goal.returns-then-serves-clause-graph
 returns-then-serves-clause-graph c =
     serving c.args.net.now c.args.pair.now.to c.args.pair.now.routed c.args.last.now c.requires.pair.1.routed c.requires.last (c.serves.ensures c.if-serves.true)
-
-pub returns-clause-last : goal.returns-clause-last
-returns-clause-last c =
-    of_table c.args.net.now c.args.pair.now.to c.args.pair.now.routed c.in_ok-build.field-0 c.requires.pair.1.routed c.in_ok-build.ensures.table c.in_ok-build.ensures.graph

@@ -9,7 +9,8 @@ pub returns-clause-cut : goal.returns-clause-cut
 returns-clause-cut c =
     let units_are = c.deref.ensures.value ∙ c.into_units-units.ensures in
     let side_is = c.slice.ensures.items ∙ c.in_ok-side.ensures in
-    let links_are = c.in_ok-links.ensures ∙ ap (λ (units : Units). links_out units (flagged c.slice.result.now)) units_are ∙ ap (λ (flags : List Bool). links_out c.args.flow.units (flagged flags)) side_is in
+    let links_are = c.in_ok-links.ensures ∙ ap (λ (units : Units). links_out units (flagged c.slice.result.now)) units_are
+    ∙ ap (λ (flags : List Bool). links_out c.args.flow.units (flagged flags)) side_is in
     subst (λ (flags : List Bool). IsLeastSide c.args.g.now.arcs c.args.s c.args.t (flagged flags) c.in_ok-links.links) (sym c.in_ok-side.ensures)
     (subst (λ (links : List Link). IsLeastSide c.args.g.now.arcs c.args.s c.args.t (flagged c.args.flow.reached) links) (sym links_are) c.requires.side.least_side)
 

@@ -15,5 +15,6 @@ loop-unit-preserved c = elim c.match-out_link.branch [
       c.loop-unit.invariant (w.links-is ∙ w.in_ok-push.ensures.ok) (sym w.in-Some.ensures)
   | in_default w ↦
       let none : c.out_link.result ≡ None = elim (none_or_some c.out_link.result) [ inl e ↦ e | inr (x, e) ↦ absurd (w.in_default.not-Some x e) ] in
-      w.links-is ∙ filter_map-none (out_link (flagged c.args.side.now)) c.args.units.now c.loop-unit.unit-index _ c.loop-unit.links c.loop-unit-test.true c.loop-unit.invariant (sym c.out_link.ensures ∙ none)
+      w.links-is ∙ filter_map-none (out_link (flagged c.args.side.now)) c.args.units.now c.loop-unit.unit-index _ c.loop-unit.links c.loop-unit-test.true c.loop-unit.invariant
+      (sym c.out_link.ensures ∙ none)
 ]

@@ -61,7 +61,8 @@ loop-arc-init c =
     c.in_ok-carried.ensures.none c.in_ok-needed.ensures.none c.in_ok-carried.ensures.room in
     record {
       walked = subst (λ (units : Units). Walked c.args.g.now.arcs c.args.s c.args.t units c.in_ok-needed.needed.items (reverse c.in_ok-back.back.items)) (sym now)
-          (subst (λ (rest : List Arc). Walked c.args.g.now.arcs c.args.s c.args.t (sent c.in_ok-carried.carried.items (way_to c.args.search.marks.items c.args.t)) c.in_ok-needed.needed.items rest) (sym way) w);
+          (subst (λ (rest : List Arc). Walked c.args.g.now.arcs c.args.s c.args.t
+          (sent c.in_ok-carried.carried.items (way_to c.args.search.marks.items c.args.t)) c.in_ok-needed.needed.items rest) (sym way) w);
       search = subst (λ (units : Units). IsSearch (residual units c.args.g.now.arcs) c.args.s c.run-count.new.self.marks.items c.run-count.new.self.queue.items c.run-count.result c.run-count.result)
           c.deref-3.ensures.value c.run-count.ensures.search;
       room = c.in_ok-needed.ensures.room;
@@ -87,7 +88,8 @@ widen-count-requires-clause-of_link c link arc e =
 
 pub widen-count-requires-clause-arc : goal.widen-count-requires-clause-arc
 widen-count-requires-clause-arc c =
-    let w = next c.args.g.now.arcs c.args.s c.args.t c.loop-arc.carried.items c.loop-arc.needed.items c.loop-arc.back.items c.pop.new.self.items c.in-Some.arc c.in-Some.ensures.items c.loop-arc.invariant.walked in
+    let w = next c.args.g.now.arcs c.args.s c.args.t c.loop-arc.carried.items c.loop-arc.needed.items c.loop-arc.back.items c.pop.new.self.items c.in-Some.arc c.in-Some.ensures.items
+    c.loop-arc.invariant.walked in
     ap (λ (units : Units). unit_at units c.in-Some.arc.link.0) c.deref_mut-then-not-is_seen.ensures.value ∙ w.full c.in-Some.arc (Contains-here c.in-Some.arc (reverse c.pop.new.self.items))
 
 pub widen-count-requires-clause-tail : goal.widen-count-requires-clause-tail
@@ -111,12 +113,14 @@ loop-arc-preserved-then-not-is_seen c =
     let size : length c.widen-count.new.carried ≡ c.loop-arc.carried.len = omega arith in
     let held = with_items_is c.loop-arc.carried c.widen-count.new.carried size in
     let now = held ∙ c.widen-count.ensures.carried ∙ ap (λ (units : Units). set units link None) c.deref_mut-then-not-is_seen.ensures.value in
-    let after = over_unseen c.args.g.now c.requires.graph c.args.s c.args.t c.loop-arc.carried.items c.loop-arc.needed.items c.loop-arc.search.marks.items c.loop-arc.search.queue.items c.loop-arc.count
+    let after = over_unseen c.args.g.now c.requires.graph c.args.s c.args.t c.loop-arc.carried.items c.loop-arc.needed.items c.loop-arc.search.marks.items c.loop-arc.search.queue.items
+    c.loop-arc.count
     c.in-Some.arc (reverse c.pop.new.self.items) w inv.search (sym c.is_seen.ensures ∙ c.if-not-is_seen.true)
     (All-contains (λ (a : Arc). a.link.0 < length c.loop-arc.needed.items) c.args.g.now.arcs c.in-Some.arc inv.room w.path.0) in
     record {
       walked = subst (λ (units : Units). Walked c.args.g.now.arcs c.args.s c.args.t units (set c.loop-arc.needed.items link (Some c.in-Some.arc)) (reverse c.pop.new.self.items)) (sym now) after;
-      search = subst (λ (units : Units). IsSearch (residual units c.args.g.now.arcs) c.args.s c.widen-count.new.self.marks.items c.widen-count.new.self.queue.items c.widen-count.result c.widen-count.result)
+      search = subst (λ (units : Units). IsSearch (residual units c.args.g.now.arcs) c.args.s c.widen-count.new.self.marks.items c.widen-count.new.self.queue.items c.widen-count.result
+          c.widen-count.result)
           (sym held) c.widen-count.ensures.search;
       room = subst (λ (n : ℕ). All (λ (a : Arc). a.link.0 < n) c.args.g.now.arcs) (sym (length-set c.loop-arc.needed.items link (Some c.in-Some.arc))) inv.room;
       marks = omega (arith, c.widen-count.ensures.marks, inv.marks);

@@ -32,7 +32,8 @@ loop-policy-preserved g c =
     record {
       right = AllZip-more (IsRight c.args.net.now) c.args.policies.now c.loop-policy.policy-index c.policy-item.result c.loop-policy.verdicts c.push.new.self c.in_ok-verdict.verdict
           low is c.loop-policy.invariant.right c.in_ok-push.ensures.ok c.in_ok-verdict.ensures.right;
-      fixed = AllZip-more (IsFixed c.args.net.now c.args.policies.now) c.args.policies.now c.loop-policy.policy-index c.policy-item.result c.loop-policy.verdicts c.push.new.self c.in_ok-verdict.verdict
+      fixed = AllZip-more (IsFixed c.args.net.now c.args.policies.now) c.args.policies.now c.loop-policy.policy-index c.policy-item.result c.loop-policy.verdicts c.push.new.self
+          c.in_ok-verdict.verdict
           low is c.loop-policy.invariant.fixed c.in_ok-push.ensures.ok c.in_ok-verdict.ensures.fixed;
       count = omega (arith, ap length c.in_ok-push.ensures.ok, length-append c.loop-policy.verdicts (c.in_ok-verdict.verdict ∷ []), c.loop-policy.invariant.count);
       last = c.judge_few.ensures.last;

@@ -26,7 +26,8 @@ returns-in_ok-paths-in-Paths c = λ ends is.
     (good_paths c.args.net.now ends c.args.graph.now (subst (λ (to : Prefix). IsGraphOf c.args.net.now to IsAnyArc c.args.graph.now) is.to c.requires.graph)
     c.args.pair.now.source.router.0 c.args.pair.now.target.router.0 (c.args.failures + 1)
     (ap (λ (e : End). e.router.0) is.source) (ap (λ (e : End). e.router.0) is.target) c.in-Paths.rows
-    (subst (λ (a : FlowAnswer). IfPaths a (AreDisjointPaths c.args.graph.now.arcs c.args.pair.now.source.router.0 c.args.pair.now.target.router.0 (c.args.failures + 1))) c.in-Paths.is c.in_ok-answer.ensures.paths)
+    (subst (λ (a : FlowAnswer). IfPaths a (AreDisjointPaths c.args.graph.now.arcs c.args.pair.now.source.router.0 c.args.pair.now.target.router.0 (c.args.failures + 1))) c.in-Paths.is
+    c.in_ok-answer.ensures.paths)
     (subst (λ (a : FlowAnswer). IfPaths a AreInOrder) c.in-Paths.is c.in_ok-answer.ensures.order))
 
 pub returns-in-Cut : goal.returns-in-Cut
@@ -34,6 +35,7 @@ returns-in-Cut c = λ ends is.
     good_cut c.args.net.now ends c.args.graph.now (subst (λ (to : Prefix). IsGraphOf c.args.net.now to IsAnyArc c.args.graph.now) is.to c.requires.graph)
     c.args.pair.now.source.router.0 c.args.pair.now.target.router.0 c.args.failures
     (ap (λ (e : End). e.router.0) is.source) (ap (λ (e : End). e.router.0) is.target) c.in-Cut.links c.in-Cut.side
-    (subst (λ (a : FlowAnswer). IfCut a (λ links side. IsLeastSide c.args.graph.now.arcs c.args.pair.now.source.router.0 c.args.pair.now.target.router.0 (flagged side) links)) c.in-Cut.is c.in_ok-answer.ensures.cut)
+    (subst (λ (a : FlowAnswer). IfCut a (λ links side. IsLeastSide c.args.graph.now.arcs c.args.pair.now.source.router.0 c.args.pair.now.target.router.0 (flagged side) links))
+    c.in-Cut.is c.in_ok-answer.ensures.cut)
     (subst (λ (a : FlowAnswer). IfCut a (λ links side. length links < c.args.failures + 1)) c.in-Cut.is c.in_ok-answer.ensures.fewer)
     (subst (λ (a : FlowAnswer). IfCut a (λ links side. length side ≡ c.args.graph.now.nodes)) c.in-Cut.is c.in_ok-answer.ensures.flags)

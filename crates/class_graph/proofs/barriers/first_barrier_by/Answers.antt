@@ -1,6 +1,6 @@
 use Rattle.std.proofs.Common.{subst}
 use Rattle.class_graph.specs.Barriers.{IsFirstBetween}
-use Rattle.class_graph.proofs.barriers.first_barrier.Goals as goal
+use Rattle.class_graph.proofs.barriers.first_barrier_by.Goals as goal
 
 pub returns-in-Some : goal.returns-in-Some
 returns-in-Some c = λ ends is. subst (IsFirstBetween c.args.net.now ends c.args.classes.now) c.in-Some.is (c.in_ok-denial.ensures ends is)

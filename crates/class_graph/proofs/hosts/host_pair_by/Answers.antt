@@ -3,7 +3,7 @@ use Rattle.std.specs.Prelude.{IsSomeAnd}
 use Rattle.arc_base.specs.Addresses.{IsInside}
 use Rattle.arc_base.specs.declared.prefix.Prefix.{Prefix}
 use Rattle.net_model.proofs.Hosts.{source_face, target_face}
-use Rattle.class_graph.proofs.hosts.host_pair.Goals as goal
+use Rattle.class_graph.proofs.hosts.host_pair_by.Goals as goal
 
 pub host_face-source-requires : goal.host_face-source-requires
 host_face-source-requires c = (c.requires.ends.ends.source, source_face c.args.net.now c.args.class c.requires.ends.ends c.requires.ends.are_ends)

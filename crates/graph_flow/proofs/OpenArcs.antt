@@ -1,0 +1,43 @@
+-- The arcs that are open, among those of a graph.
+use Rattle.std.proofs.Common.{◌≡◌, ◌<◌, true, List, Contains, ap, subst, Some, None, Option}
+use Rattle.std.specs.Prelude.{◌==◌, if◌then◌else◌}
+use Rattle.std.proofs.lemmas.Bool.{eq-eqb}
+use Rattle.std.proofs.lemmas.List.Elements.{All-contains}
+use Rattle.graph_flow.specs.declared.arcs.Arc.{Arc}
+use Rattle.graph_flow.specs.declared.arcs.OpenLink.{OpenLink}
+use Rattle.graph_flow.specs.OpenLinks.{is_open_way, row_of, open_of, open_arcs}
+use Rattle.graph_flow.specs.Paths.{Digraph, IsGraph, Joins}
+use Rattle.graph_flow.specs.Residual.{touching, touches}
+use Rattle.graph_flow.proofs.Lists.{filter-member}
+use Rattle.graph_flow.proofs.Residuals.{filter_map-member, filter_map-from}
+use Rattle.graph_flow.proofs.Looks.{or-left}
+use Rattle.graph_flow.proofs.Extracts.{if-arc}
+
+-- an open arc is given as it is
+pub open-is : (table : List OpenLink) (arc found : Arc) → open_of table arc ≡ Some found → (is_open_way (row_of table arc.link.0) arc.tail arc.head ≡ true) × (arc ≡ found)
+open-is table arc found e = if-arc (is_open_way (row_of table arc.link.0) arc.tail arc.head) arc found e
+
+-- and comes from the row of its tail
+pub open-row : (arcs : List Arc) (table : List OpenLink) (arc : Arc) → Contains (open_arcs table arcs) arc → (base : Arc) × Contains (touching arcs arc.tail) base × (open_of table base ≡ Some arc)
+open-row arcs table arc m =
+    let from = filter_map-from (open_of table) arcs arc m in
+    let same : from.0 ≡ arc = (open-is table from.0 arc from.2).1 in
+    let touched : touches arc.tail from.0 ≡ true = or-left ((from.0).tail == arc.tail) ((from.0).head == arc.tail) (eq-eqb (from.0).tail arc.tail (ap (λ (x : Arc). x.tail) same)) in
+    (from.0, filter-member (touches arc.tail) arcs from.0 from.1 touched, from.2)
+
+-- its head is a node
+pub open-head : (g : Digraph) (table : List OpenLink) (arc : Arc) → IsGraph g → Contains (open_arcs table g.arcs) arc → arc.head < g.nodes
+open-head g table arc is m =
+    let from = filter_map-from (open_of table) g.arcs arc m in
+    let joins : Joins g.nodes from.0 = All-contains (Joins g.nodes) g.arcs from.0 is.joined from.1 in
+    subst (λ (x : Arc). x.head < g.nodes) (open-is table from.0 arc from.2).1 joins.head_node
+
+-- an arc is among the open ones exactly where it is among all, and is open
+pub from-open : (table : List OpenLink) (arcs : List Arc) (arc : Arc) → Contains (open_arcs table arcs) arc → Contains arcs arc × (is_open_way (row_of table arc.link.0) arc.tail arc.head ≡ true)
+from-open table arcs arc m =
+    let from = filter_map-from (open_of table) arcs arc m in
+    let is = open-is table from.0 arc from.2 in
+    (subst (λ (x : Arc). Contains arcs x) is.1 from.1, subst (λ (x : Arc). is_open_way (row_of table x.link.0) x.tail x.head ≡ true) is.1 is.0)
+
+pub has-open : (table : List OpenLink) (arcs : List Arc) (arc : Arc) → Contains arcs arc → is_open_way (row_of table arc.link.0) arc.tail arc.head ≡ true → Contains (open_arcs table arcs) arc
+has-open table arcs arc m is = filter_map-member (open_of table) arcs arc arc m (ap (λ b. if b then Some arc else None) is)

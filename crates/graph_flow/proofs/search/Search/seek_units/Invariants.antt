@@ -1,0 +1,15 @@
+use Rattle.std.proofs.Common.{◌≡◌, ◌≤◌, ◌-◌, filter_map, vec_len}
+use Rattle.graph_flow.specs.Marks.{IsSearch}
+use Rattle.graph_flow.specs.Residual.{unit_of}
+use Rattle.graph_flow.proofs.search.Search.seek_units.Given as goal
+
+abbrev pub invariant-loop-looked : goal.invariant-loop-looked
+invariant-loop-looked l = record {
+  search : IsSearch (filter_map (unit_of l.units l.first) l.g.arcs) l.first.tail l.self.marks.items l.self.queue.items l.count l.looked;
+  within : l.looked ≤ l.count;
+  marks : vec_len l.self.marks ≡ l.g.nodes;
+  queue : vec_len l.self.queue ≡ l.g.nodes;
+}
+
+abbrev pub decreases-loop-looked : goal.decreases-loop-looked
+decreases-loop-looked l = l.g.nodes - l.looked
