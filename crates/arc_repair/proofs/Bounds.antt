@@ -1,4 +1,4 @@
--- A kept bound, as the encoder and the descent say it.
+-- A kept bound, as the encoder and the descent define it.
 use Rattle.std.proofs.Common.{◌≡◌, ℕ, Bool, true, false, not, Option, Some, None, List, refl, sym, ◌∙◌, ap, IsTrue}
 use Rattle.std.specs.Prelude.{IfSome, IsFalse, slice_get}
 use Rattle.std.proofs.lemmas.Option.{same_Some}

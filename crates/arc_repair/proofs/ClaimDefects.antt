@@ -31,19 +31,22 @@ module _ (net : Network) (doc : Document) (list : List Edit) where
   not_mispriced price bound flags costs affordable few (inr (inl above)) = omega (arith, above, affordable)
   not_mispriced price bound flags costs affordable few (inr (inr above)) = omega (arith, above, few)
 
-  -- where the price is right, the verdicts decide
-  pub judged : (price bound : ℕ) (flags : List Bool) (verdicts : List Verdict) (after : Network) → length flags ≡ length list → price_of_flags doc list flags ≡ price → price ≤ bound → bound ≤ 512 → IsAfter net (chosen_of list flags) after → (o : Option CertKind) →
+  -- if the price is right, the verdicts decide
+  pub judged : (price bound : ℕ) (flags : List Bool) (verdicts : List Verdict) (after : Network) → length flags ≡ length list →
+      price_of_flags doc list flags ≡ price → price ≤ bound → bound ≤ 512 → IsAfter net (chosen_of list flags) after → (o : Option CertKind) →
       MatchOption o (AllZip (IsRightYes after) doc.policies verdicts) (IsVerdictDefect after doc.policies verdicts) →
       MatchOption o (IsRightClaim net doc list (Repaired price bound flags verdicts)) (IsDefect net doc list (Repaired price bound flags verdicts))
   judged price bound flags verdicts after each costs affordable few is None h = record { one_each = each; costs = costs; affordable = affordable; few = few; after = after; is_after = is; judged = h }
   judged price bound flags verdicts after each costs affordable few is (Some kind) h =
       inr (record { priced = λ (m : IsMispriced doc list price bound flags). not_mispriced price bound flags costs affordable few m; after = after; is_after = is; defect = h })
 
-  -- nothing was found to be wrong
-  pub none_wrong : (claim : Claim) (o : Option CertKind) → ((kind : CertKind) → o ≡ Some kind → ⊥) → MatchOption o (IsRightClaim net doc list claim) (IsDefect net doc list claim) → IsRightClaim net doc list claim
+  -- nothing wrong was found
+  pub none_wrong : (claim : Claim) (o : Option CertKind) → ((kind : CertKind) → o ≡ Some kind → ⊥) →
+      MatchOption o (IsRightClaim net doc list claim) (IsDefect net doc list claim) → IsRightClaim net doc list claim
   none_wrong claim None never h = h
   none_wrong claim (Some kind) never h = absurd (never kind refl)
 
-  -- this was found
-  pub this_wrong : (claim : Claim) (o : Option CertKind) (kind : CertKind) → o ≡ Some kind → MatchOption o (IsRightClaim net doc list claim) (IsDefect net doc list claim) → IsDefect net doc list claim kind
+  -- this was found to be wrong
+  pub this_wrong : (claim : Claim) (o : Option CertKind) (kind : CertKind) → o ≡ Some kind →
+      MatchOption o (IsRightClaim net doc list claim) (IsDefect net doc list claim) → IsDefect net doc list claim kind
   this_wrong claim o kind is h = subst (λ (x : Option CertKind). MatchOption x (IsRightClaim net doc list claim) (IsDefect net doc list claim)) is h

@@ -12,7 +12,7 @@ use Rattle.arc_repair.specs.Checks.{knowledge}
 use Rattle.arc_repair.specs.Claims.{claim_bound, least_bound, needs_refutation}
 use Rattle.arc_repair.specs.Laws.{ChecksAreExact, CertificatesPass}
 
--- nothing to refute, or refuted
+-- if there is something to refute, it is refuted
 met_need : (needs refuted : Bool) → IsTrue (not needs || refuted) → needs ≡ true → IsTrue refuted
 met_need true refuted h is = h
 met_need false refuted h is = absurd (false≢true is)
@@ -43,4 +43,5 @@ pub certificates_pass : HaveOneFormula → CertificatesPass
 certificates_pass single net doc list claim begun steps valid b certificate =
     let one = single net doc list (claim_bound claim) certificate.shown.formula b.formula certificate.shown.tops b.tops valid certificate.shown.is_formula b.is_formula in
     subst (λ (x : Knowledge). IsAccepted x steps) (sym b.knows)
-    (subst (λ (t : List Lit). IsAccepted (start b.formula (least_bound claim) t) steps) one.1 (subst (λ (f : Formula). IsAccepted (start f (least_bound claim) certificate.shown.tops) steps) one.0 certificate.shown.accepted))
+    (subst (λ (t : List Lit). IsAccepted (start b.formula (least_bound claim) t) steps) one.1
+    (subst (λ (f : Formula). IsAccepted (start f (least_bound claim) certificate.shown.tops) steps) one.0 certificate.shown.accepted))

@@ -25,7 +25,7 @@ use Rattle.arc_repair.specs.Answers.{ShowsFew}
 few_sides : (classes : List Class) (sides : List ClassSide) → length classes ≤ 4096 → map (λ s. s.class) sides ≡ classes → ShowsFew (Closed sides)
 few_sides classes sides few in_order = omega (arith, few, ap length in_order, length-map sides (λ s. s.class))
 
--- one path more than links may fail, or none
+-- one more path than links may fail, or none
 few_paths : (net : Network) (ends : Ends) (k : ℕ) (whole : Class) (paths : List LinkPath) → k ≤ 16 → IsRightPaths net ends k whole paths → ShowsFew (Paths paths)
 few_paths net ends k whole paths few right = elim (eqb_tells (source_router ends) (target_router ends)) [
   | inl same ↦ omega (arith, right.together same.1)
@@ -45,8 +45,9 @@ few_for net ends others Blocked whole classes (Paths paths) failures few right f
 few_for net ends others Through whole classes (Paths paths) failures few right fixed = absurd right
 few_for net ends others (Reach k) whole classes (Paths paths) failures few right fixed = few_paths net ends k whole paths failures right
 
--- the right verdicts that are given
-pub show_few : (net : Network) (all policies : List Policy) (verdicts : List Verdict) → All (λ policy. HasFewFailures policy.kind) policies → AllZip (IsRight net) policies verdicts → AllZip (IsFixed net all) policies verdicts → All ShowsFew verdicts
+-- right verdicts that are given show few sides or paths
+pub show_few : (net : Network) (all policies : List Policy) (verdicts : List Verdict) → All (λ policy. HasFewFailures policy.kind) policies →
+    AllZip (IsRight net) policies verdicts → AllZip (IsFixed net all) policies verdicts → All ShowsFew verdicts
 show_few net all [] [] failures right fixed = All-nil ShowsFew
 show_few net all [] (v ∷ vs) failures right fixed = absurd right
 show_few net all (p ∷ ps) [] failures right fixed = absurd right

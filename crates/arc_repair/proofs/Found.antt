@@ -1,4 +1,4 @@
--- What a descent over the repair formula finds, in the words of networks.
+-- What a descent over the repair formula finds, in terms of the network.
 use Rattle.std.proofs.Common.{◌≡◌, ◌≤◌, inl, inr, ℕ, Bool, List, length, refl, sym, ◌∙◌, ap, subst, arith, eq-eqb, if◌then◌else◌}
 use Rattle.std.proofs.lemmas.Bool.{cases_lt}
 use Rattle.std.proofs.lemmas.List.Elements.{All-contains}
@@ -20,7 +20,7 @@ use Rattle.price_descent.specs.Outcomes as descent
 use Rattle.price_descent.specs.Prices.{HasModel, ArePriced}
 use Rattle.proof_log.specs.declared.steps.Step.{Step}
 use Rattle.proof_log.specs.declared.steps.Step.TheVariants.{Add, Drop, Bound}
-use Rattle.arc_repair.specs.Answers.{IsKnownBound}
+use Rattle.arc_repair.specs.Answers.{IsBoundWithCause}
 use Rattle.arc_repair.specs.Repairs.{Mends}
 use Rattle.arc_repair.specs.Search.{flagged_cost, IsSearched}
 use Rattle.arc_repair.proofs.Priced.{are_priced, model_mends, mends_model}
@@ -28,7 +28,8 @@ use Rattle.arc_repair.proofs.Priced.{are_priced, model_mends, mends_model}
 pub flagged : (doc : Document) (list : List Edit) (flags : List Bool) → length flags ≡ length list → flagged_cost doc list flags ≡ price_of_flags doc list flags
 flagged doc list flags each = ap (λ b. if b then price_of_flags doc list flags else 0) (eq-eqb (length flags) (length list) each)
 
-module _ (models : encoded.ModelsAreRepairs) (one : encoded.OneModelServes) (there : AfterIsThere) (is_valid : AfterIsValid) (net : Network) (doc : Document) (list : List Edit) (most : ℕ) (formula : Formula) (tops : List Lit)
+module _ (models : encoded.ModelsAreRepairs) (one : encoded.OneModelServes) (there : AfterIsThere) (is_valid : AfterIsValid) (net : Network) (doc : Document) (list : List Edit)
+    (most : ℕ) (formula : Formula) (tops : List Lit)
     (valid : IsValid net) (countable : IsCountable net) (edits : AreEdits net doc list) (is : IsRepairFormula net doc list most formula tops) where
   pub flags_priced : ArePriced (flagged_cost doc list) formula tops (length list) most
   flags_priced =
@@ -46,7 +47,7 @@ module _ (models : encoded.ModelsAreRepairs) (one : encoded.OneModelServes) (the
   has_model : (flags : List Bool) → Mends net doc list flags → price_of_flags doc list flags ≤ most → HasModel formula tops flags most
   has_model flags m affordable = mends_model models one there is_valid net doc list most formula tops valid countable edits is flags most m affordable (omega arith)
 
-  known : (s : Step) → descent.IsKnownBound (flagged_cost doc list) formula tops (length list) most s → IsKnownBound net doc list most s
+  known : (s : Step) → descent.IsKnownBound (flagged_cost doc list) formula tops (length list) most s → IsBoundWithCause net doc list most s
   known (Add id lits hints) k = tt
   known (Drop ids) k = tt
   known (Bound id bound) (inl same) = inl same
@@ -56,8 +57,10 @@ module _ (models : encoded.ModelsAreRepairs) (one : encoded.OneModelServes) (the
     costs = sym (flagged doc list reached.values reached.one_each) ∙ reached.costs;
   })
 
-  -- flags that cost at most as much as allowed are no cheaper, and others are dearer
-  least : (price : ℕ) → price ≤ most → ((flags : List Bool) → length flags ≡ length list → HasModel formula tops flags most → price ≤ flagged_cost doc list flags) → (flags : List Bool) → Mends net doc list flags → price ≤ price_of_flags doc list flags
+  -- flags whose price is within the bound are no cheaper, and others cost more
+  least : (price : ℕ) → price ≤ most →
+      ((flags : List Bool) → length flags ≡ length list → HasModel formula tops flags most → price ≤ flagged_cost doc list flags) → (flags : List Bool) →
+      Mends net doc list flags → price ≤ price_of_flags doc list flags
   least price within cheapest flags m = elim (cases_lt most (price_of_flags doc list flags)) [
     | inl dear ↦ omega (arith, dear, within)
     | inr cheap ↦ subst (λ (n : ℕ). price ≤ n) (flagged doc list flags m.one_each) (cheapest flags m.one_each (has_model flags m cheap))
@@ -88,5 +91,6 @@ module _ (models : encoded.ModelsAreRepairs) (one : encoded.OneModelServes) (the
     tops = tops;
     is_formula = is;
     spent = f.spent;
-    bounds = All-from (IsKnownBound net doc list most) log.steps (λ s there_s. known s (All-contains (descent.IsKnownBound (flagged_cost doc list) formula tops (length list) most) log.steps s f.bounds there_s));
+    bounds = All-from (IsBoundWithCause net doc list most) log.steps
+        (λ s there_s. known s (All-contains (descent.IsKnownBound (flagged_cost doc list) formula tops (length list) most) log.steps s f.bounds there_s));
   }

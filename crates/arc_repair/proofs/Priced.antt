@@ -16,12 +16,13 @@ use Rattle.price_descent.specs.Prices.{HasModel, ArePriced}
 use Rattle.arc_repair.specs.Repairs.{Mends}
 use Rattle.arc_repair.proofs.Bounds.{to_encoded, to_priced}
 
-module _ (models : encoded.ModelsAreRepairs) (one : encoded.OneModelServes) (there : AfterIsThere) (is_valid : AfterIsValid) (net : Network) (doc : Document) (list : List Edit) (most : ℕ) (formula : Formula) (tops : List Lit)
+module _ (models : encoded.ModelsAreRepairs) (one : encoded.OneModelServes) (there : AfterIsThere) (is_valid : AfterIsValid) (net : Network) (doc : Document) (list : List Edit)
+    (most : ℕ) (formula : Formula) (tops : List Lit)
     (valid : IsValid net) (countable : IsCountable net) (edits : AreEdits net doc list) (is : IsRepairFormula net doc list most formula tops) where
   edited : (flags : List Bool) → length flags ≡ length list → (after : Network) → IsAfter net (chosen_of list flags) after → encoded.IsEdited net doc list flags after
   edited flags each after is_after = record { valid = valid; edits = edits; one_each = each; is_after = is_after; valid_after = is_valid net valid countable (chosen_of list flags) after is_after }
 
-  -- what a model of the formula under a bound shows of the edits that it begins with
+  -- what a model of the formula with a bound shows about the edits that it begins with
   pub record IsBought (flags : List Bool) (bound : ℕ) : Type 0 where
     pub mends : Mends net doc list flags
     pub affordable : price_of_flags doc list flags ≤ bound
@@ -35,7 +36,8 @@ module _ (models : encoded.ModelsAreRepairs) (one : encoded.OneModelServes) (the
 
   pub mends_model : (flags : List Bool) (bound : ℕ) → Mends net doc list flags → price_of_flags doc list flags ≤ bound → bound ≤ most → HasModel formula tops flags bound
   mends_model flags bound mends affordable within =
-      let has = (models net doc list most formula tops flags mends.after bound is (edited flags mends.one_each mends.after mends.is_after) within).1 (record { met = mends.meets; affordable = affordable }) in
+      let has = (models net doc list most formula tops flags mends.after bound is (edited flags mends.one_each mends.after mends.is_after) within).1
+      (record { met = mends.meets; affordable = affordable }) in
       record { assignment = has.assignment; begins = has.begins; satisfies = has.satisfies; keeps = to_priced has.assignment tops bound has.keeps }
 
   pub are_priced : ArePriced (price_of_flags doc list) formula tops (length list) most

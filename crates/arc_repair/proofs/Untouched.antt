@@ -1,4 +1,4 @@
--- No edits at all: what they cost, and when the network needs none.
+-- Choosing no edits: its price, and when the network needs no edits.
 use Rattle.std.proofs.Common.{◌≡◌, ℕ, Bool, false, List, [], ◌∷◌, length, refl, sym, ap, subst}
 use Rattle.std.proofs.lemmas.Bool.{false≢true}
 use Rattle.std.proofs.lemmas.List.{length-map}
@@ -31,7 +31,7 @@ none_for_each list = length-map list (λ e. false)
 pub none_costs : (doc : Document) (list : List Edit) → price_of_flags doc list (none_of list) ≡ 0
 none_costs doc list = ap (price_of doc.weights) (none_chosen list)
 
--- an empty log shows a repair that costs nothing
+-- an empty log shows a repair of price 0
 pub shows_free : (net : Network) (doc : Document) (list : List Edit) (bound : ℕ) (flags : List Bool) (verdicts : List Verdict) (formula : Formula) (tops : List Lit) →
     IsRepairFormula net doc list bound formula tops → Shows net doc list (Repaired 0 bound flags verdicts) []
 shows_free net doc list bound flags verdicts formula tops is = record { formula = formula; tops = tops; is_formula = is; accepted = tt; refuting = λ needs. absurd (false≢true needs) }

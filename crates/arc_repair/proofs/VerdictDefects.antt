@@ -15,7 +15,7 @@ use Rattle.arc_repair.specs.Checks.{IsVerdictDefect}
 use Rattle.arc_repair.specs.Claims.{IsRightYes}
 
 module _ (net : Network) where
-  -- what is left of policies and verdicts tells of the whole
+  -- the policies and verdicts that are left decide for all
   pub record Leaves (policies : List Policy) (verdicts : List Verdict) (ps : List Policy) (vs : List Verdict) : Type 0 where
     pub right : AllZip (IsRightYes net) ps vs → AllZip (IsRightYes net) policies verdicts
     pub defect : (kind : CertKind) → IsVerdictDefect net ps vs kind → IsVerdictDefect net policies verdicts kind
@@ -23,8 +23,9 @@ module _ (net : Network) where
   pub all_left : (policies : List Policy) (verdicts : List Verdict) → Leaves policies verdicts policies verdicts
   all_left policies verdicts = record { right = λ z. z; defect = λ kind d. d }
 
-  -- one pair that is right
-  pub one_less : (policies : List Policy) (verdicts : List Verdict) (p : Policy) (ps : List Policy) (v : Verdict) (vs : List Verdict) → Leaves policies verdicts (p ∷ ps) (v ∷ vs) → IsRightYes net p v → Leaves policies verdicts ps vs
+  -- one right pair fewer
+  pub one_less : (policies : List Policy) (verdicts : List Verdict) (p : Policy) (ps : List Policy) (v : Verdict) (vs : List Verdict) →
+      Leaves policies verdicts (p ∷ ps) (v ∷ vs) → IsRightYes net p v → Leaves policies verdicts ps vs
   one_less policies verdicts p ps v vs left right_one = record { right = λ z. left.right (right_one, z); defect = λ kind d. left.defect kind (inr (inr (right_one, d))) }
 
   pub not_yes : (p : Policy) (ps : List Policy) (v : Verdict) (vs : List Verdict) → is_yes v ≡ false → IsVerdictDefect net (p ∷ ps) (v ∷ vs) kinds.NotYes
@@ -49,7 +50,8 @@ module _ (net : Network) where
 
   module _ (policies : List Policy) (verdicts : List Verdict) (place : ℕ) (left : Leaves policies verdicts (drop place policies) (drop place verdicts)) where
     -- a policy and the verdict at its place
-    pub pair : (p : Policy) (v : Verdict) → slice_get policies place ≡ Some p → slice_get verdicts place ≡ Some v → Leaves policies verdicts (p ∷ drop (place + 1) policies) (v ∷ drop (place + 1) verdicts)
+    pub pair : (p : Policy) (v : Verdict) → slice_get policies place ≡ Some p → slice_get verdicts place ≡ Some v →
+        Leaves policies verdicts (p ∷ drop (place + 1) policies) (v ∷ drop (place + 1) verdicts)
     pair p v here there =
         let ps : drop place policies ≡ p ∷ drop (place + 1) policies =
         drop_more policies place p (slice_get_within policies place p here) ∙ ap (λ (x : Policy). x ∷ drop (place + 1) policies) (get_or_from_slice_get policies place p p here) in
@@ -69,4 +71,5 @@ module _ (net : Network) where
     at_end all past = left.right (both_end (drop place policies) (drop place verdicts) (omega (arith, length-drop place policies, all)) (omega (arith, length-drop place verdicts, past)))
 
     pub at_more : length policies ≤ place → place < length verdicts → IsVerdictDefect net policies verdicts kinds.Policy
-    at_more all more = left.defect kinds.Policy (too_many (drop place policies) (drop place verdicts) (omega (arith, length-drop place policies, all)) (omega (arith, length-drop place verdicts, more)))
+    at_more all more = left.defect kinds.Policy
+        (too_many (drop place policies) (drop place verdicts) (omega (arith, length-drop place policies, all)) (omega (arith, length-drop place verdicts, more)))

@@ -1,4 +1,4 @@
--- What a repair answers.
+-- The answers of a repair.
 use Rattle.std.specs.Prelude.{◌≡◌, ℕ, ◌+◌, ◌≤◌, ◌⊎◌, Bool, Some, List, [], length, All}
 use Rattle.arc_base.specs.declared.limits.TheConstants.{CLASS_LIMIT, EDIT_LIMIT}
 use Rattle.cnf_types.specs.declared.literal.Lit.{Lit}
@@ -14,7 +14,7 @@ use Rattle.edit_list.specs.declared.edit_kinds.Edit.{Edit}
 use Rattle.edit_list.specs.declared.edit_kinds.EditFault.{EditFault}
 use Rattle.edit_list.specs.EditLists.{AreEdits, DocumentHasFewClasses, NamesLimit}
 use Rattle.edit_list.specs.Prices.{price_of_flags, none_of}
-use Rattle.policy_encode.specs.Formulas.{IsRepairFormula, IsWithin, IsFaultOf}
+use Rattle.policy_encode.specs.Formulas.{IsRepairFormula, IsWithin, IsFaultOfFormula}
 use Rattle.proof_log.specs.declared.steps.Step.{Step}
 use Rattle.proof_log.specs.declared.steps.Step.TheVariants.{Add, Drop, Bound}
 use Rattle.arc_repair.specs.declared.answer.Answer.{Answer}
@@ -22,7 +22,7 @@ use Rattle.arc_repair.specs.declared.answer.Answer.TheVariants.{Done, Budget}
 use Rattle.arc_repair.specs.Repairs.{Mends}
 use Rattle.arc_repair.specs.Claims.{claim_bound, IsTrueClaim, IsCertificate}
 
--- the claim is true and of the bound that was asked for, and with the log it is a certificate
+-- the claim is true and has the bound that was asked for, and with the log it is a certificate
 pub record IsDone (net : Network) (doc : Document) (list : List Edit) (bound : ℕ) (claim : Claim)
     (steps : List Step) : Type 0 where
   pub same_bound : claim_bound claim ≡ bound
@@ -38,33 +38,34 @@ pub record IsPriceOfRepair (net : Network) (doc : Document) (list : List Edit)
 
 -- a bound of the log is the one that was asked for, or one less than the price of edits after which
 -- the network meets the document
-abbrev pub IsKnownBound : Network → Document → List Edit → ℕ → Step → Type 0
-IsKnownBound net doc list most (Add id lits hints) = Unit {0}
-IsKnownBound net doc list most (Drop ids) = Unit {0}
-IsKnownBound net doc list most (Bound id bound) =
+abbrev pub IsBoundWithCause : Network → Document → List Edit → ℕ → Step → Type 0
+IsBoundWithCause net doc list most (Add id lits hints) = Unit {0}
+IsBoundWithCause net doc list most (Drop ids) = Unit {0}
+IsBoundWithCause net doc list most (Bound id bound) =
     (bound ≡ most) ⊎ IsPriceOfRepair net doc list (bound + 1)
 
--- the log is spent: for the repair formula it is clean, and has as many added clauses as the limit;
+-- the log is spent: for the repair formula it is clean, and it adds as many clauses as the limit;
 -- each of its bounds has its cause
-pub record IsOutOfBudget (net : Network) (doc : Document) (list : List Edit) (bound limit : ℕ)
+pub record IsOutOfRepairBudget (net : Network) (doc : Document) (list : List Edit) (bound limit : ℕ)
     (steps : List Step) : Type 0 where
   pub formula : Formula
   pub tops : List Lit
   pub is_formula : IsRepairFormula net doc list bound formula tops
   pub spent : IsSpent formula (Some 0) tops limit steps
-  pub bounds : All (IsKnownBound net doc list bound) steps
+  pub bounds : All (IsBoundWithCause net doc list bound) steps
 
--- what is answered is so
-abbrev pub IsAnswer : Network → Document → List Edit → ℕ → ℕ → Answer → Type 0
-IsAnswer net doc list bound limit (Done claim log) = IsDone net doc list bound claim log.steps
-IsAnswer net doc list bound limit (Budget log) = IsOutOfBudget net doc list bound limit log.steps
+-- the answer is right
+abbrev pub IsRepairAnswer : Network → Document → List Edit → ℕ → ℕ → Answer → Type 0
+IsRepairAnswer net doc list bound limit (Done claim log) = IsDone net doc list bound claim log.steps
+IsRepairAnswer net doc list bound limit (Budget log) =
+    IsOutOfRepairBudget net doc list bound limit log.steps
 
--- the steps of its log
+-- the steps of the answer's log
 abbrev pub answer_steps : Answer → List Step
 answer_steps (Done claim log) = log.steps
 answer_steps (Budget log) = log.steps
 
--- no edit is chosen, and the log is empty
+-- the answer chooses no edit, and its log is empty
 abbrev pub IsUntouched : List Edit → Answer → Type 0
 IsUntouched list (Done (Repaired price bound flags verdicts) log) =
     (price ≡ 0) × (flags ≡ none_of list) × (log.steps ≡ [])
@@ -77,12 +78,12 @@ ShowsFew (Closed sides) = length sides ≤ CLASS_LIMIT
 ShowsFew (Paths paths) = length paths ≤ CLASS_LIMIT
 ShowsFew other = Unit {0}
 
--- each verdict of the claim does
+-- each verdict of the claim shows at most CLASS_LIMIT closed sides or paths
 abbrev pub ClaimsFew : Claim → Type 0
 ClaimsFew (Repaired price bound flags verdicts) = All ShowsFew verdicts
 ClaimsFew (NoRepair bound) = Unit {0}
 
--- each verdict of the answer does
+-- each verdict of the answer shows at most CLASS_LIMIT closed sides or paths
 abbrev pub AnswersFew : Answer → Type 0
 AnswersFew (Done claim log) = ClaimsFew claim
 AnswersFew (Budget log) = Unit {0}
@@ -94,16 +95,16 @@ pub record KeepsLimits (net : Network) (doc : Document) (list : List Edit)
   pub edits : length list ≤ EDIT_LIMIT
   pub formula : IsWithin net doc list bound
 
--- with few classes and few edits, the formula passes the limit that the fault names
+-- with few classes and few edits, the formula exceeds the limit that the fault names
 pub record PassesFormula (net : Network) (doc : Document) (bound : ℕ)
     (fault : EditFault) : Type 0 where
   pub list : List Edit
   pub are : AreEdits net doc list
   pub classes : DocumentHasFewClasses net doc
   pub edits : length list ≤ EDIT_LIMIT
-  pub formula : IsFaultOf net doc list bound fault
+  pub formula : IsFaultOfFormula net doc list bound fault
 
--- the fault names the first limit that is passed: of classes, of edits, of the formula's variables,
--- of its literals
+-- the fault names the first limit that is exceeded: of classes, of edits, of the formula's
+-- variables, of its literals
 abbrev pub IsRepairFault : Network → Document → ℕ → EditFault → Type 0
 IsRepairFault net doc bound fault = NamesLimit net doc fault ⊎ PassesFormula net doc bound fault

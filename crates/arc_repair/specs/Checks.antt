@@ -36,13 +36,13 @@ abbrev pub HasFlagsOf : List Edit → Claim → Type 0
 HasFlagsOf list (Repaired price bound flags verdicts) = length flags ≡ length list
 HasFlagsOf list (NoRepair bound) = Unit {0}
 
--- the price is not that of the edits, or passes the bound, or the bound passes PRICE_LIMIT
+-- the price is not that of the edits, or exceeds the bound, or the bound exceeds PRICE_LIMIT
 abbrev pub IsMispriced : Document → List Edit → ℕ → ℕ → List Bool → Type 0
 IsMispriced doc list price bound flags =
     (price_of_flags doc list flags ≢ price) ⊎ (bound < price) ⊎ (PRICE_LIMIT < bound)
 
 -- the first thing that is wrong with the verdicts on these policies: one is missing or too many,
--- one is no yes, or one is not right
+-- one is not a yes, or one is not right
 abbrev pub IsVerdictDefect : Network → List Policy → List Verdict → CertKind → Type 0
 IsVerdictDefect net [] [] kind = ⊥
 IsVerdictDefect net [] (v ∷ verdicts) kind = kind ≡ kinds.Policy
@@ -73,8 +73,8 @@ IsDefect net doc list (NoRepair bound) kind = (PRICE_LIMIT < bound) × (kind ≡
 abbrev pub knowledge : Check → Knowledge
 knowledge check = known check.checker
 
--- the check of this claim is before its log: the claim is right, and what is known is its repair
--- formula with its least bound
+-- the check of this claim is before its log: all but the log is right, and what is known is the
+-- claim's repair formula with its least bound
 pub record IsBegun (net : Network) (doc : Document) (list : List Edit) (claim : Claim)
     (check : Check) : Type 0 where
   pub right : IsRightClaim net doc list claim
@@ -84,13 +84,13 @@ pub record IsBegun (net : Network) (doc : Document) (list : List Edit) (claim : 
   pub knows : knowledge check ≡ start formula (least_bound claim) tops
   pub needs : check.needs_refutation ≡ needs_refutation claim
 
--- a check of the claim begins, or something is wrong with it
-abbrev pub IsMade : Network → Document → List Edit → Claim → Made → Type 0
-IsMade net doc list claim (Good check) = IsBegun net doc list claim check
-IsMade net doc list claim (Bad kind) = IsDefect net doc list claim kind
+-- a check of the claim begins, or this is what is wrong with it
+abbrev pub IsCheckMade : Network → Document → List Edit → Claim → Made → Type 0
+IsCheckMade net doc list claim (Good check) = IsBegun net doc list claim check
+IsCheckMade net doc list claim (Bad kind) = IsDefect net doc list claim kind
 
--- there are few classes and few edits, and where the claim's bound is at most PRICE_LIMIT, the
--- formula is within its limits
+-- there are few classes and few edits, and if the claim's bound is at most PRICE_LIMIT, the formula
+-- is within its limits
 pub record ClaimKeepsLimits (net : Network) (doc : Document) (list : List Edit)
     (claim : Claim) : Type 0 where
   pub classes : DocumentHasFewClasses net doc

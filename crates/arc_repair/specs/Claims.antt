@@ -1,5 +1,5 @@
--- What is claimed of a repair: when a claim is true, when it is right as far as it goes without a
--- log, and which log shows it.
+-- Claims on a repair: when a claim is true, when it is right apart from its log, and which log
+-- shows it.
 use Rattle.std.specs.Prelude.{◌≡◌, ℕ, suc, zero, ◌<◌, ◌≤◌, Bool, true, false, IsTrue, Option, Some}
 use Rattle.std.specs.Prelude.{List, length}
 use Rattle.std.specs.List.{AllZip}
@@ -21,14 +21,14 @@ use Rattle.price_descent.specs.Outcomes.{least_below}
 use Rattle.proof_check.specs.Knowledge.{start}
 use Rattle.proof_check.specs.Logs.{IsAccepted, IsRefuting}
 use Rattle.proof_log.specs.declared.steps.Step.{Step}
-use Rattle.arc_repair.specs.Repairs.{Mends, IsLeast}
+use Rattle.arc_repair.specs.Repairs.{Mends, IsLeastPrice}
 
 -- the verdict is a yes, and right
 pub record IsRightYes (net : Network) (policy : Policy) (v : Verdict) : Type 0 where
   pub yes : IsTrue (is_yes v)
   pub right : IsRight net policy v
 
--- what is claimed of edits is right: there is a flag for each, the chosen ones cost the price,
+-- the claim of a repair is right: there is a flag for each edit, the chosen ones cost the price,
 -- which is within the bound, the bound is at most PRICE_LIMIT, and in the network after them the
 -- verdicts are right yeses, one on each policy in order
 pub record IsRightRepair (net : Network) (doc : Document) (list : List Edit) (price bound : ℕ)
@@ -41,18 +41,18 @@ pub record IsRightRepair (net : Network) (doc : Document) (list : List Edit) (pr
   pub is_after : IsAfter net (chosen_of list flags) after
   pub judged : AllZip (IsRightYes after) doc.policies verdicts
 
--- the claim is right as far as it goes without a log
+-- the claim is right apart from its log
 abbrev pub IsRightClaim : Network → Document → List Edit → Claim → Type 0
 IsRightClaim net doc list (Repaired price bound flags verdicts) =
     IsRightRepair net doc list price bound flags verdicts
 IsRightClaim net doc list (NoRepair bound) = bound ≤ PRICE_LIMIT
 
--- the edits mend the network at this price, and none do for less
+-- the edits mend the network at this price, and none that mend it cost less
 pub record IsCheapestRepair (net : Network) (doc : Document) (list : List Edit) (price bound : ℕ)
     (flags : List Bool) (verdicts : List Verdict) : Type 0 where
   pub right : IsRightRepair net doc list price bound flags verdicts
   pub mends : Mends net doc list flags
-  pub least : IsLeast net doc list price
+  pub least : IsLeastPrice net doc list price
 
 -- the claim is true: these are the cheapest edits that mend the network, or all that do cost more
 -- than the bound
@@ -68,24 +68,24 @@ claim_bound (Repaired price bound flags verdicts) = bound
 claim_bound (NoRepair bound) = bound
 
 -- the least bound that a log of the claim may have: one less than the price of a repair, and the
--- bound itself where there is no repair
+-- bound itself if there is no repair
 abbrev pub least_bound : Claim → Option ℕ
 least_bound (Repaired price bound flags verdicts) = least_below price
 least_bound (NoRepair bound) = Some bound
 
--- whether there is something to refute: any price below that of the repair
+-- whether there is a price below this one, and so something to refute
 abbrev pub is_above_zero : ℕ → Bool
 is_above_zero zero = false
 is_above_zero (suc n) = true
 
--- whether a log has to refute something to show the claim: each claim but a repair that costs
+-- whether the log of the claim has to refute the formula: for each claim but a repair that costs
 -- nothing
 abbrev pub needs_refutation : Claim → Bool
 needs_refutation (Repaired price bound flags verdicts) = is_above_zero price
 needs_refutation (NoRepair bound) = true
 
 -- the log shows the claim: it is accepted for the repair formula and the least bound, and adds the
--- empty clause where there is something to refute
+-- empty clause if there is something to refute
 pub record Shows (net : Network) (doc : Document) (list : List Edit) (claim : Claim)
     (steps : List Step) : Type 0 where
   pub formula : Formula

@@ -29,7 +29,7 @@ CertificatesAreTrue =
 abbrev pub accepts : Check → Bool
 accepts check = not check.needs_refutation || (knowledge check).refuted
 
--- a check that has gone over a log that it accepts says by its answer whether the claim and the log
+-- a check that has accepted each step of a log accepts in the end exactly if the claim and the log
 -- are a certificate
 abbrev pub ChecksAreExact : Type 0
 ChecksAreExact =

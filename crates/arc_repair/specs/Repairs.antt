@@ -17,6 +17,6 @@ pub record Mends (net : Network) (doc : Document) (list : List Edit)
   pub meets : MeetsDocument after doc
 
 -- no edits that mend the network cost less
-abbrev pub IsLeast : Network → Document → List Edit → ℕ → Type 0
-IsLeast net doc list price =
+abbrev pub IsLeastPrice : Network → Document → List Edit → ℕ → Type 0
+IsLeastPrice net doc list price =
     (flags : List Bool) → Mends net doc list flags → price ≤ price_of_flags doc list flags

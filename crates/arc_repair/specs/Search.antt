@@ -18,11 +18,11 @@ use Rattle.price_descent.specs.Outcomes.{least_below}
 use Rattle.proof_check.specs.Knowledge.{start}
 use Rattle.proof_check.specs.Logs.{IsAccepted, IsRefuting}
 use Rattle.proof_log.specs.declared.steps.Step.{Step}
-use Rattle.arc_repair.specs.Answers.{IsDone, IsOutOfBudget}
+use Rattle.arc_repair.specs.Answers.{IsDone, IsOutOfRepairBudget}
 use Rattle.arc_repair.specs.Claims.{IsRightYes}
-use Rattle.arc_repair.specs.Repairs.{Mends, IsLeast}
+use Rattle.arc_repair.specs.Repairs.{Mends, IsLeastPrice}
 
--- the cost of the edits that the flags choose, where there is one for each
+-- the price of the edits that the flags choose, or 0 if there is not one flag for each edit
 abbrev pub flagged_cost : Document → List Edit → List Bool → ℕ
 flagged_cost doc list flags =
     if length flags == length list then price_of_flags doc list flags else 0
@@ -41,17 +41,18 @@ pub record IsCheapestFound (net : Network) (doc : Document) (list : List Edit) (
   pub mends : Mends net doc list offer.values
   pub costs : price_of_flags doc list offer.values ≡ offer.price
   pub affordable : offer.price ≤ bound
-  pub least : IsLeast net doc list offer.price
+  pub least : IsLeastPrice net doc list offer.price
   pub formula : Formula
   pub tops : List Lit
   pub is_formula : IsRepairFormula net doc list bound formula tops
   pub accepted : IsAccepted (start formula (least_below offer.price) tops) steps
   pub refuting : 1 ≤ offer.price → IsRefuting steps
 
--- what a search found is so
+-- what a search found is right
 abbrev pub IsSearched : Network → Document → List Edit → ℕ → ℕ → Found → Type 0
 IsSearched net doc list bound limit (Cheapest offer log) =
     IsCheapestFound net doc list bound offer log.steps
 IsSearched net doc list bound limit (Nothing log) =
     IsDone net doc list bound (NoRepair bound) log.steps
-IsSearched net doc list bound limit (Budget log) = IsOutOfBudget net doc list bound limit log.steps
+IsSearched net doc list bound limit (Budget log) =
+    IsOutOfRepairBudget net doc list bound limit log.steps

@@ -17,32 +17,32 @@ pub struct Check {
     needs_refutation: bool,
 }
 
-/// What comes of a claim before its log is read.
+/// The result of judging a claim before its log is read.
 #[derive(Drop)]
 pub enum Made {
-    /// The claim is right as far as it goes; its log is to be judged.
+    /// Nothing but the log is left to judge.
     Good(Check),
     /// The first thing that is wrong with the claim.
     Bad(CertKind),
 }
 
 impl Check {
-    ghost use Rattle.std.specs.Prelude.{◌≡◌, ◌≤◌, None, List as Items, length, All, IfOk, IfErr};
-    ghost use Rattle.std.specs.Prelude.{OnOk, OnErr};
-    ghost use Rattle.net_model.specs.Forwarding.{HasEnds};
-    ghost use Rattle.net_model.specs.Packets.{subject};
-    ghost use Rattle.net_model.specs.Validity.{IsValid};
-    ghost use Rattle.edit_list.specs.declared.edit_kinds.Edit.{Edit as AnyEdit};
-    ghost use Rattle.edit_list.specs.EditLists.{AreEdits};
-    ghost use Rattle.proof_check.specs.Knowledge.{step_fault, after, IsFirst};
-    ghost use Rattle.net_model.specs.Policies.{HasFewFailures};
     ghost use Rattle.arc_repair.specs.Answers.{IsRepairFault};
-    ghost use Rattle.arc_repair.specs.Checks.{ClaimKeepsLimits, HasFlags, IsMade, knowledge};
+    ghost use Rattle.arc_repair.specs.Checks.{ClaimKeepsLimits, HasFlags, IsCheckMade, knowledge};
     ghost use Rattle.arc_repair.specs.Claims.{claim_bound};
     ghost use Rattle.arc_repair.specs.Laws.{accepts};
+    ghost use Rattle.edit_list.specs.EditLists.{AreEdits};
+    ghost use Rattle.edit_list.specs.declared.edit_kinds.Edit.{Edit as AnyEdit};
+    ghost use Rattle.net_model.specs.Forwarding.{HasEnds};
+    ghost use Rattle.net_model.specs.Packets.{subject};
+    ghost use Rattle.net_model.specs.Policies.{HasFewFailures};
+    ghost use Rattle.net_model.specs.Validity.{IsValid};
+    ghost use Rattle.proof_check.specs.Knowledge.{step_fault, after, IsFirst};
+    ghost use Rattle.std.specs.Prelude.{◌≡◌, ◌≤◌, None, List as Items, length, All, IfOk, IfErr};
+    ghost use Rattle.std.specs.Prelude.{OnOk, OnErr};
 
-    /// Judges the claim as far as it goes without its log: its price, and then each of its verdicts
-    /// in the network after the edits.
+    /// Judges the claim without its log: its price, and then each of its verdicts in the network
+    /// after the edits.
     ///
     /// The classes, the edits and, for a bound up to `PRICE_LIMIT`, the formula are counted against
     /// their limits first.
@@ -58,7 +58,7 @@ impl Check {
         requires failures { All (λ policy. HasFewFailures policy.kind) doc.now.policies }
         requires flags { HasFlags net.now doc.now claim.now }
         ensures made { IfOk result (λ made. (list : Items AnyEdit) → AreEdits net.now doc.now list →
-            IsMade net.now doc.now list claim.now made) }
+            IsCheckMade net.now doc.now list claim.now made) }
         ensures limits { IfOk result (λ made.
             (list : Items AnyEdit) → AreEdits net.now doc.now list →
             ClaimKeepsLimits net.now doc.now list claim.now) }
@@ -81,8 +81,8 @@ impl Check {
         }))
     }
 
-    /// Judges a step of the log, and takes it where it is accepted. After a fault the check is as
-    /// it was.
+    /// Judges a step of the log, and takes it if it is accepted. After a fault the check is
+    /// unchanged.
     pub fn step(&mut self, s: &Step) -> Result<(), StepFault>
         ensures ok { OnOk result (step_fault (knowledge self.old) s.now ≡ None) }
         ensures after { OnOk result (knowledge self.new ≡ after (knowledge self.old) s.now) }

@@ -5,7 +5,7 @@ use edit_list::{Edit, price};
 use net_model::Document;
 use price_descent::Prices;
 
-/// What edits cost by the weights of a document.
+/// The prices of edits by the weights of a document.
 #[derive(Clone, Copy)]
 pub(crate) struct Costs<'a> {
     pub(crate) doc: &'a Document,

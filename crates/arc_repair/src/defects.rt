@@ -1,13 +1,13 @@
-//! What is wrong with a claim, as far as it can be seen without a log.
-ghost use Rattle.std.specs.Prelude.{◌≡◌, ◌≤◌, length, All, IfOk, MatchOption};
-ghost use Rattle.std.specs.List.{AllZip};
-ghost use Rattle.net_model.specs.Forwarding.{HasEnds};
-ghost use Rattle.net_model.specs.Packets.{subject};
-ghost use Rattle.net_model.specs.Validity.{IsValid};
-ghost use Rattle.edit_list.specs.declared.claims.Claim.TheVariants.{Repaired};
+//! What is wrong with a claim, judged without its log.
 ghost use Rattle.arc_repair.specs.Checks.{IsVerdictDefect, IsDefect, HasFlagsOf};
 ghost use Rattle.arc_repair.specs.Claims.{IsRightYes, IsRightClaim, claim_bound, least_bound};
 ghost use Rattle.arc_repair.specs.Claims.{needs_refutation};
+ghost use Rattle.edit_list.specs.declared.claims.Claim.TheVariants.{Repaired};
+ghost use Rattle.net_model.specs.Forwarding.{HasEnds};
+ghost use Rattle.net_model.specs.Packets.{subject};
+ghost use Rattle.net_model.specs.Validity.{IsValid};
+ghost use Rattle.std.specs.List.{AllZip};
+ghost use Rattle.std.specs.Prelude.{◌≡◌, ◌≤◌, length, All, IfOk, MatchOption};
 
 use arc_base::limits::PRICE_LIMIT;
 use arc_base::{CertKind, List, Memory};
@@ -37,7 +37,8 @@ pub(crate) fn least_bound(claim: &Claim) -> Option<u32>
     }
 }
 
-/// Whether a log has to refute something to show the claim.
+/// Whether the log of the claim has to refute the formula; for a repair of price 0 there is nothing
+/// to refute.
 pub(crate) fn needs_refutation(claim: &Claim) -> bool
     ensures { result ≡ needs_refutation claim.now }
 {
@@ -72,7 +73,7 @@ fn verdict_defect(net: &Network, policies: &[Policy], verdicts: &[Verdict]) -> O
     }
 }
 
-/// The first thing that is wrong with what is claimed of edits.
+/// The first thing that is wrong with the claim of a repair.
 fn repair_defect(
     alloc: Global,
     net: &Network,

@@ -1,17 +1,17 @@
-//! The verdicts on all policies, if they are yeses.
-ghost use Rattle.std.specs.Prelude.{◌≡◌, length, All, IfOk, IfSome, IsNone};
-ghost use Rattle.std.specs.List.{AllZip};
-ghost use Rattle.net_model.specs.Forwarding.{HasEnds};
-ghost use Rattle.net_model.specs.Packets.{subject};
-ghost use Rattle.net_model.specs.Policies.{Meets, HasFewFailures};
-ghost use Rattle.net_model.specs.Validity.{IsValid};
-ghost use Rattle.verdicts.specs.Judged.{HasFewClassesEach};
-ghost use Rattle.edit_list.specs.Determined.{IsCountable};
-ghost use Rattle.edit_list.specs.EditLists.{AreEdits, DocumentHasFewClasses};
+//! The verdicts on all policies, if each is a yes.
 ghost use Rattle.arc_repair.specs.Answers.{ShowsFew};
 ghost use Rattle.arc_repair.specs.Claims.{IsRightYes};
 ghost use Rattle.arc_repair.specs.Repairs.{Mends};
 ghost use Rattle.arc_repair.specs.Search.{AreYesAfter};
+ghost use Rattle.edit_list.specs.Determined.{IsCountable};
+ghost use Rattle.edit_list.specs.EditLists.{AreEdits, DocumentHasFewClasses};
+ghost use Rattle.net_model.specs.Forwarding.{HasEnds};
+ghost use Rattle.net_model.specs.Packets.{subject};
+ghost use Rattle.net_model.specs.Policies.{Meets, HasFewFailures};
+ghost use Rattle.net_model.specs.Validity.{IsValid};
+ghost use Rattle.std.specs.List.{AllZip};
+ghost use Rattle.std.specs.Prelude.{◌≡◌, length, All, IfOk, IfSome, IsNone};
+ghost use Rattle.verdicts.specs.Judged.{HasFewClassesEach};
 
 use arc_base::{List, Memory};
 use edit_list::Edit;

@@ -22,8 +22,8 @@ pub fn certificates_are_true()
     verdicts_are_right();
 }
 
-/// A check accepts the log of a claim step by step, and in the end, exactly where the two are a
-/// certificate.
+/// A check accepts each step of a log, and the claim in the end, exactly if the claim and the log
+/// are a certificate.
 pub fn checks_are_exact()
     ensures exact { ChecksAreExact }
     ensures passes { CertificatesPass }

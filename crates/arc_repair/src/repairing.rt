@@ -1,23 +1,23 @@
 //! The cheapest repair.
-ghost use Rattle.std.specs.Prelude.{◌≡◌, ◌≤◌, [], List as Items, length, All, IfOk, IfErr};
+ghost use Rattle.arc_repair.specs.Answers.{AnswersFew, IsRepairAnswer, answer_steps, IsUntouched};
+ghost use Rattle.arc_repair.specs.Answers.{KeepsLimits, IsRepairFault};
+ghost use Rattle.arc_repair.specs.Repairs.{Mends};
+ghost use Rattle.arc_repair.specs.Search.{IsSearched};
+ghost use Rattle.arc_repair.specs.declared.answer.Answer.TheVariants.{Done};
 ghost use Rattle.clean_logs.specs.CleanLogs.{additions};
-ghost use Rattle.net_model.specs.Forwarding.{HasEnds};
-ghost use Rattle.net_model.specs.Packets.{subject};
-ghost use Rattle.net_model.specs.Validity.{IsValid};
-ghost use Rattle.edit_list.specs.declared.claims.Claim.TheVariants.{Repaired};
-ghost use Rattle.edit_list.specs.declared.edit_kinds.Edit.{Edit as AnyEdit};
 ghost use Rattle.edit_list.specs.Determined.{IsCountable};
 ghost use Rattle.edit_list.specs.EditLists.{AreEdits, DocumentHasFewClasses};
 ghost use Rattle.edit_list.specs.Ordered.{IsInOrder};
 ghost use Rattle.edit_list.specs.Prices.{none_of};
+ghost use Rattle.edit_list.specs.declared.claims.Claim.TheVariants.{Repaired};
+ghost use Rattle.edit_list.specs.declared.edit_kinds.Edit.{Edit as AnyEdit};
+ghost use Rattle.net_model.specs.Forwarding.{HasEnds};
+ghost use Rattle.net_model.specs.Packets.{subject};
+ghost use Rattle.net_model.specs.Policies.{HasFewFailures, MeetsDocument};
+ghost use Rattle.net_model.specs.Validity.{IsValid};
 ghost use Rattle.price_descent.specs.Outcomes.{found_steps};
 ghost use Rattle.proof_log.specs.Texts.{HasLine};
-ghost use Rattle.net_model.specs.Policies.{HasFewFailures, MeetsDocument};
-ghost use Rattle.arc_repair.specs.declared.answer.Answer.TheVariants.{Done};
-ghost use Rattle.arc_repair.specs.Answers.{AnswersFew, IsAnswer, answer_steps, IsUntouched};
-ghost use Rattle.arc_repair.specs.Answers.{KeepsLimits, IsRepairFault};
-ghost use Rattle.arc_repair.specs.Repairs.{Mends};
-ghost use Rattle.arc_repair.specs.Search.{IsSearched};
+ghost use Rattle.std.specs.Prelude.{◌≡◌, ◌≤◌, [], List as Items, length, All, IfOk, IfErr};
 
 use crate::answer::Answer;
 use crate::judging::yeses_after;
@@ -27,7 +27,7 @@ use arc_base::{List, Memory};
 use edit_list::laws::edit_lists_are_one;
 use edit_list::{Claim, Edit, EditFault, edits, unchosen};
 use net_model::{Document, Network, Verdict};
-use policy_encode::encode;
+use policy_encode::encode_packed;
 use price_descent::Found;
 use proof_log::Log;
 use run_progress::{Listener, Nobody};
@@ -42,7 +42,7 @@ fn no_flags(alloc: Global, list: &List<Edit>) -> Result<List<bool>, Memory>
     Ok(none)
 }
 
-/// The answer where no edit is needed.
+/// The answer if no edit is needed.
 fn untouched(alloc: Global, bound: u32, chosen: List<bool>, verdicts: List<Verdict>) -> Answer
     ensures { result ≡ Done (Repaired 0 bound chosen verdicts) (record { steps = [] }) }
 {
@@ -58,8 +58,8 @@ fn untouched(alloc: Global, bound: u32, chosen: List<bool>, verdicts: List<Verdi
     Answer::Done(claim, log)
 }
 
-/// The answer that comes of a search, with the verdicts in the network after the edits that were
-/// found.
+/// The answer for the result of a search, with the verdicts in the network after the edits that
+/// were found.
 fn answer_of<L: Listener>(
     alloc: Global,
     net: &Network,
@@ -78,7 +78,7 @@ fn answer_of<L: Listener>(
     requires edits { AreEdits net.now doc.now list.now }
     requires bound { bound ≤ PRICE_LIMIT }
     requires searched { IsSearched net.now doc.now list.now bound limit found }
-    ensures answer { IfOk result (IsAnswer net.now doc.now list.now bound limit) }
+    ensures answer { IfOk result (IsRepairAnswer net.now doc.now list.now bound limit) }
     ensures lines { IfOk result (λ answer. answer_steps answer ≡ found_steps found) }
     ensures few { IfOk result AnswersFew }
 {
@@ -109,7 +109,7 @@ fn answer_of<L: Listener>(
 /// It gives up once the log adds `limit` clauses.
 ///
 /// The classes, the edits and the formula are counted against their limits first, in this order. A
-/// network that meets the document already is answered without a search.
+/// network that meets the document already needs no search.
 pub fn repair(
     alloc: Global,
     net: &Network,
@@ -124,7 +124,7 @@ pub fn repair(
     requires bound { bound ≤ PRICE_LIMIT }
     requires limit { limit ≤ CONFLICT_LIMIT }
     ensures answer { IfOk result (λ answer. (list : Items AnyEdit) → AreEdits net.now doc.now list →
-        IsAnswer net.now doc.now list bound limit answer) }
+        IsRepairAnswer net.now doc.now list bound limit answer) }
     ensures met { IfOk result (λ answer. (list : Items AnyEdit) → AreEdits net.now doc.now list →
         Mends net.now doc.now list (none_of list) → IsUntouched list answer) }
     ensures meets { IfOk result (λ answer. (list : Items AnyEdit) → AreEdits net.now doc.now list →
@@ -142,8 +142,8 @@ pub fn repair(
     Ok(answer)
 }
 
-/// The answer that `repair` gives, where these are the edits of the network for the document, and
-/// they and the classes are within their limits.
+/// The answer that `repair` gives, if these are the edits of the network for the document, and they
+/// and the classes are within their limits.
 pub fn repair_of<L: Listener>(
     alloc: Global,
     net: &Network,
@@ -163,7 +163,7 @@ pub fn repair_of<L: Listener>(
     requires few_edits { length list.now ≤ EDIT_LIMIT }
     requires bound { bound ≤ PRICE_LIMIT }
     requires limit { limit ≤ CONFLICT_LIMIT }
-    ensures answer { IfOk result (IsAnswer net.now doc.now list.now bound limit) }
+    ensures answer { IfOk result (IsRepairAnswer net.now doc.now list.now bound limit) }
     ensures met { IfOk result (λ answer.
         Mends net.now doc.now list.now (none_of list.now) → IsUntouched list.now answer) }
     ensures meets { IfOk result (λ answer.
@@ -174,12 +174,12 @@ pub fn repair_of<L: Listener>(
     ensures limits { IfOk result (λ answer. KeepsLimits net.now doc.now list.now bound) }
     ensures fault { IfErr result (IsRepairFault net.now doc.now bound) }
 {
-    let encoded = encode(alloc, net, doc, list, bound)?;
+    let encoded = encode_packed(alloc, net, doc, list, bound)?;
     let none = no_flags(alloc, list)?;
     if let Some(verdicts) = yeses_after(alloc, net, doc, list, none.slice(), listener)? {
         return Ok(untouched(alloc, bound, none, verdicts));
     }
-    let found = cheapest(alloc, net, doc, list, &encoded, bound, limit, listener)?;
+    let found = cheapest(alloc, net, doc, list, encoded, bound, limit, listener)?;
     let answer = answer_of(alloc, net, doc, list, bound, limit, found, listener)?;
     Ok(answer)
 }

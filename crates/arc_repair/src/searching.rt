@@ -1,13 +1,13 @@
 //! The search for the cheapest repair.
-ghost use Rattle.std.specs.Prelude.{◌≤◌, All, IfOk};
+ghost use Rattle.arc_repair.specs.Search.{IsSearched};
 ghost use Rattle.clean_logs.specs.CleanLogs.{additions};
-ghost use Rattle.net_model.specs.Validity.{IsValid};
 ghost use Rattle.edit_list.specs.Determined.{IsCountable};
 ghost use Rattle.edit_list.specs.EditLists.{AreEdits};
+ghost use Rattle.net_model.specs.Validity.{IsValid};
 ghost use Rattle.policy_encode.specs.Formulas.{IsRepairFormula};
 ghost use Rattle.price_descent.specs.Outcomes.{found_steps};
 ghost use Rattle.proof_log.specs.Texts.{HasLine};
-ghost use Rattle.arc_repair.specs.Search.{IsSearched};
+ghost use Rattle.std.specs.Prelude.{◌≤◌, All, IfOk};
 
 use crate::costs::Costs;
 use arc_base::limits::{CONFLICT_LIMIT, PRICE_LIMIT, VARIABLE_LIMIT};
@@ -15,7 +15,7 @@ use arc_base::{List, Memory};
 use edit_list::Edit;
 use edit_space::laws::networks_after_edits_are_valid;
 use net_model::{Document, Network};
-use policy_encode::Encoded;
+use policy_encode::PackedEncoding;
 use policy_encode::laws::{formulas_are_searchable, models_are_repairs, one_model_serves};
 use price_descent::{Found, descend};
 use run_progress::Listener;
@@ -27,7 +27,7 @@ pub(crate) fn cheapest<L: Listener>(
     net: &Network,
     doc: &Document,
     list: &List<Edit>,
-    encoded: &Encoded,
+    encoded: PackedEncoding,
     bound: u32,
     limit: u64,
     listener: &mut L,
@@ -36,8 +36,8 @@ pub(crate) fn cheapest<L: Listener>(
     requires countable { IsCountable net.now }
     requires edits { AreEdits net.now doc.now list.now }
     requires formula { IsRepairFormula net.now doc.now list.now bound
-        encoded.now.formula encoded.now.tops }
-    requires variables { encoded.now.formula.vars ≤ VARIABLE_LIMIT }
+        encoded.formula encoded.tops }
+    requires variables { encoded.formula.vars ≤ VARIABLE_LIMIT }
     requires bound { bound ≤ PRICE_LIMIT }
     requires limit { limit ≤ CONFLICT_LIMIT }
     ensures searched { IfOk result (IsSearched net.now doc.now list.now bound limit) }
@@ -49,11 +49,12 @@ pub(crate) fn cheapest<L: Listener>(
     one_model_serves();
     formulas_are_searchable();
     let costs = Costs { doc, edits: list };
+    let PackedEncoding { formula, tops } = encoded;
     let found = descend(
         alloc,
         &costs,
-        &encoded.formula,
-        &encoded.tops,
+        formula,
+        &tops,
         list.len(),
         bound,
         limit,

@@ -1,5 +1,6 @@
 -- Clauses written one after the other.
-use Rattle.std.proofs.Common.{◌≡◌, ℕ, suc, ◌+◌, ◌-◌, ◌<◌, ◌≤◌, ◌^◌, Bool, true, false, cond, List, [], ◌∷◌, ◌++◌, length, get_or, take, map, filter, filter_map, refl, sym, ap, ◌∙◌, subst, arith, sum_by, append_assoc}
+use Rattle.std.proofs.Common.{◌≡◌, ℕ, suc, ◌+◌, ◌-◌, ◌<◌, ◌≤◌, ◌^◌, Bool, true, false, cond, List, [], ◌∷◌}
+use Rattle.std.proofs.Common.{◌++◌, length, get_or, take, map, filter, filter_map, refl, sym, ap, ◌∙◌, subst, arith, sum_by, append_assoc}
 use Rattle.std.specs.Prelude.{min, if◌then◌else◌}
 use Rattle.std.specs.List.{flat_map}
 use Rattle.std.proofs.lemmas.List.{take_more, take_all, map-append, append-nil, get_or-map}
@@ -32,7 +33,8 @@ pub written-append : (xs ys : List (List Part)) → written_clauses (xs ++ ys) �
 written-append xs ys = ap (λ (ls : List (List Lit)). map clause_of ls) (filter_map-append written xs ys) ∙ map-append clause_of (filter_map written xs) (filter_map written ys)
 
 pub count-append : (xs ys : List (List Part)) → literal_count (xs ++ ys) ≡ literal_count xs + literal_count ys
-count-append xs ys = ap (λ (cs : List Clause). sum_by (λ (c : Clause). length c.lits) cs) (written-append xs ys) ∙ sum_by-append (λ (c : Clause). length c.lits) (written_clauses xs) (written_clauses ys)
+count-append xs ys = ap (λ (cs : List Clause). sum_by (λ (c : Clause). length c.lits) cs) (written-append xs ys)
+    ∙ sum_by-append (λ (c : Clause). length c.lits) (written_clauses xs) (written_clauses ys)
 
 pub Adds-none : (w : Writer) → Adds w w []
 Adds-none w = record { counted = let r = w.range in omega arith; kept = λ l. sym (append-nil w.clauses) }
@@ -51,7 +53,7 @@ Adds-then a b c xs ys first second = record {
 pub Adds-same : (a b : Writer) (xs ys : List (List Part)) → xs ≡ ys → Adds a b xs → Adds a b ys
 Adds-same a b xs ys e h = subst (λ (zs : List (List Part)). Adds a b zs) e h
 
--- those of one number more
+-- the clauses of one more number
 pub Adds-more : (f : ℕ → List (List Part)) (a b c : Writer) (i : ℕ) → Adds a b (flat_map f (upto i)) → Adds b c (f i) → Adds a c (flat_map f (upto (i + 1)))
 Adds-more f a b c i first second =
     let one : i + 1 ≡ suc i = omega arith in
@@ -59,7 +61,7 @@ Adds-more f a b c i first second =
     (sym (ap (λ (n : ℕ). flat_map f (upto n)) one ∙ flat_map-append f (upto i) (i ∷ []) ∙ ap (λ (zs : List (List Part)). flat_map f (upto i) ++ zs) (append-nil (f i))))
     (Adds-then a b c (flat_map f (upto i)) (f i) first second)
 
--- those of one item more
+-- the clauses of one more item
 pub Adds-next : {X : Type 0} (f : X → List (List Part)) (a b c : Writer) (xs : List X) (i : ℕ) (x : X) → i < length xs → x ≡ get_or xs i x →
     Adds a b (flat_map f (take i xs)) → Adds b c (f x) → Adds a c (flat_map f (take (i + 1) xs))
 Adds-next {X} f a b c xs i x l is first second =
@@ -68,7 +70,7 @@ Adds-next {X} f a b c xs i x l is first second =
     ∙ ap (λ (zs : List (List Part)). flat_map f (take i xs) ++ zs) (append-nil (f (get_or xs i x)) ∙ ap f (sym is))))
     (Adds-then a b c (flat_map f (take i xs)) (f x) first second)
 
--- all of the items
+-- the clauses of all items
 pub Adds-all : {X : Type 0} (f : X → List (List Part)) (a b : Writer) (xs : List X) (i : ℕ) → length xs ≤ i → Adds a b (flat_map f (take i xs)) → Adds a b (flat_map f xs)
 Adds-all {X} f a b xs i l h = Adds-same a b (flat_map f (take i xs)) (flat_map f xs) (ap (λ (ys : List X). flat_map f ys) (take_all i xs l)) h
 
@@ -88,7 +90,7 @@ map_as_flat {X} {Y} f (x ∷ xs) = ap (λ (ys : List Y). f x ∷ ys) (map_as_fla
 pub Adds-every : {X : Type 0} (f : X → List Part) (a b : Writer) (xs : List X) (i : ℕ) → length xs ≤ i → Adds a b (map f (take i xs)) → Adds a b (map f xs)
 Adds-every {X} f a b xs i l h = Adds-same a b (map f (take i xs)) (map f xs) (ap (λ (ys : List X). map f ys) (take_all i xs l)) h
 
--- the same for numbers, which are read from a list with a default
+-- the clauses of one more number, read from a list with a default
 pub Adds-each_number : (f : ℕ → List Part) (a b c : Writer) (xs : List ℕ) (i d : ℕ) → i < length xs →
     Adds a b (map f (take i xs)) → Adds b c (f (get_or xs i d) ∷ []) → Adds a c (map f (take (i + 1) xs))
 Adds-each_number f a b c xs i d l first second =
@@ -110,14 +112,14 @@ exclusions-map {X} v xs =
     ap (λ (ps : List (ℕ × ℕ)). map (λ (p : ℕ × ℕ). let c : List Part = no p.0 ∷ no p.1 ∷ [] in c) ps) (pairs-map v xs)
     ∙ map-map (λ (p : ℕ × ℕ). let c : List Part = no p.0 ∷ no p.1 ∷ [] in c) (λ (p : X × X). let q : ℕ × ℕ = (v p.0, v p.1) in q) (pairs xs)
 
--- the pairs of the first come first
+-- the pairs with the first item come first
 pub exclusions-cons : (x : ℕ) (xs : List ℕ) → exclusions (λ (n : ℕ). n) (x ∷ xs) ≡ excludes_each x xs ++ exclusions (λ (n : ℕ). n) xs
 exclusions-cons x xs =
     let both = λ (p : ℕ × ℕ). let c : List Part = no p.0 ∷ no p.1 ∷ [] in c in
     map-append both (map (λ (y : ℕ). (x, y)) xs) (pairs xs)
     ∙ ap (λ (cs : List (List Part)). cs ++ map both (pairs xs)) (map-map both (λ (y : ℕ). let p : ℕ × ℕ = (x, y) in p) xs)
 
--- the pairs of the first are written, and then those of the others
+-- the pairs with the first item are written, and then those of the others
 pub exclusions-step : (a b c : Writer) (whole rest others : List ℕ) (one : ℕ) → rest ≡ one ∷ others → Adds b c (excludes_each one others) →
     ((end : Writer) → Adds b end (exclusions (λ (v : ℕ). v) rest) → Adds a end (exclusions (λ (v : ℕ). v) whole)) →
     (end : Writer) → Adds c end (exclusions (λ (v : ℕ). v) others) → Adds a end (exclusions (λ (v : ℕ). v) whole)
@@ -141,7 +143,7 @@ Adds-each_from {X} f a b c xs i d l first second =
     (sym (ap (λ (ys : List X). map f ys) (take_more xs i d l) ∙ map-append f (take i xs) (get_or xs i d ∷ [])))
     (Adds-then a b c (map f (take i xs)) (f (get_or xs i d) ∷ []) first second)
 
--- the same clauses over places and over their variables
+-- clauses over places are those over the places' variables
 pub some-map : (used : ℕ → ℕ) (ps vs : List ℕ) → vs ≡ map used ps → map yes vs ≡ map (λ (p : ℕ). yes (used p)) ps
 some-map used ps vs e = ap (λ (xs : List ℕ). map yes xs) e ∙ map-map yes used ps
 
@@ -159,7 +161,7 @@ implies-map used ps qs vs ws e f =
 pub exclusions-same : {X : Type 0} (used : X → ℕ) (ps : List X) (vs : List ℕ) → vs ≡ map used ps → exclusions (λ (n : ℕ). n) vs ≡ exclusions used ps
 exclusions-same {X} used ps vs e = ap (λ (xs : List ℕ). exclusions (λ (n : ℕ). n) xs) e ∙ exclusions-map used ps
 
--- the variables over a link, of one family more
+-- the variables over a link, with one more family
 pub over-more : (q : Question) (link n : ℕ) (g : ℕ → ℕ → ℕ) →
     map (λ (item : ℕ × ℕ). g item.0 item.1) (over_link q (n + 1) link) ≡ map (λ (item : ℕ × ℕ). g item.0 item.1) (over_link q n link) ++ map (g n) (picked q Over link)
 over-more q link n g =
@@ -185,9 +187,10 @@ pub questions-end : (nodes links next : ℕ) (a b : Writer) (whole : List (List 
 questions-end nodes links next a b whole rest none before =
     before b (Adds-same b b [] (questions_parts nodes links next rest) (ap (λ (qs : List Question). questions_parts nodes links next qs) (empty_is rest none)) (Adds-none b))
 
--- the questions' clauses are written and then those of the prices
+-- the questions' clauses are written, and then those of the prices
 pub all-written : (net : ConditionNet) (bound edits next : ℕ) (a b c : Writer) (qs : List Question) (ws : List ℕ) → qs ≡ net.questions → ws ≡ net.weights → edits ≡ length net.weights →
-    Adds a b (questions_parts net.nodes net.links (edits + 1) qs) → next ≡ edits + 1 + sum_by (question_size net.nodes) qs → Adds b c (price_parts ws bound (cell next (bound + 1))) → Adds a c (all_parts net bound)
+    Adds a b (questions_parts net.nodes net.links (edits + 1) qs) → next ≡ edits + 1 + sum_by (question_size net.nodes) qs →
+    Adds b c (price_parts ws bound (cell next (bound + 1))) → Adds a c (all_parts net bound)
 all-written net bound edits next a b c qs ws e f g first is second =
     let start : next ≡ first_price net =
     is ∙ ap (λ (n : ℕ). n + 1 + sum_by (question_size net.nodes) qs) g ∙ ap (λ (xs : List Question). length net.weights + 1 + sum_by (question_size net.nodes) xs) e in
@@ -197,13 +200,15 @@ all-written net bound edits next a b c qs ws e f g first is second =
     (Adds-same b c (price_parts ws bound (cell next (bound + 1))) (price_parts net.weights bound (cell (first_price net) (bound + 1)))
     (ap (λ (n : ℕ). price_parts ws bound (cell n (bound + 1))) start ∙ ap (λ (xs : List ℕ). price_parts xs bound (cell (first_price net) (bound + 1))) f) second)
 
--- what was written into nothing
-pub few_written : (a b : Writer) (parts : List (List Part)) → a.clauses ≡ [] → a.literals ≡ 0 → Adds a b parts → b.literals ≤ 32000000 → (b.clauses ≡ written_clauses parts) × (literal_count parts ≤ 32000000)
+-- what was added to an empty writer is what it has
+pub few_written : (a b : Writer) (parts : List (List Part)) → a.clauses ≡ [] → a.literals ≡ 0 → Adds a b parts → b.literals ≤ 32000000 →
+    (b.clauses ≡ written_clauses parts) × (literal_count parts ≤ 32000000)
 few_written a b parts e z h l =
     let n = h.counted in
     (h.kept l ∙ ap (λ (cs : List Clause). cs ++ written_clauses parts) e, omega arith)
 
-pub many_written : (a b : Writer) (parts : List (List Part)) → a.literals ≡ 0 → Adds a b parts → 32000000 < b.literals → (32000000 < literal_count parts) × (b.literals ≡ min (literal_count parts) (2 ^ 64 - 1))
+pub many_written : (a b : Writer) (parts : List (List Part)) → a.literals ≡ 0 → Adds a b parts → 32000000 < b.literals →
+    (32000000 < literal_count parts) × (b.literals ≡ min (literal_count parts) (2 ^ 64 - 1))
 many_written a b parts z h l =
     let n = h.counted in
     (omega arith, h.counted ∙ ap (λ (k : ℕ). min (k + literal_count parts) (2 ^ 64 - 1)) z ∙ ap (λ (k : ℕ). min k (2 ^ 64 - 1)) (omega arith))

@@ -1,5 +1,6 @@
 -- Clauses of reach, from a model to the network: each family crosses every cut, over a link of its own.
-use Rattle.std.proofs.Common.{◌≡◌, ◌≢◌, ℕ, zero, suc, ◌<◌, ◌≤◌, Bool, true, false, not, ◌&&◌, IsTrue, IsFalse, List, [], ◌∷◌, ◌++◌, length, map, filter, AllPairs, Contains, inl, inr, refl, sym, ap, ◌∙◌, subst, arith}
+use Rattle.std.proofs.Common.{◌≡◌, ◌≢◌, ℕ, zero, suc, ◌<◌, ◌≤◌, Bool, true, false, not, ◌&&◌, IsTrue, IsFalse, List}
+use Rattle.std.proofs.Common.{[], ◌∷◌, ◌++◌, length, map, filter, AllPairs, Contains, inl, inr, refl, sym, ap, ◌∙◌, subst, arith}
 use Rattle.std.specs.Prelude.{◌==◌}
 use Rattle.std.specs.List.{flat_map}
 use Rattle.std.proofs.lemmas.Bool.{eq-eqb, eqb-true, ne_eqb, and_parts, and_from, false≢true, both_ways}
@@ -7,7 +8,8 @@ use Rattle.std.proofs.lemmas.List.{length-map}
 use Rattle.std.proofs.lemmas.List.Elements.{All-contains, Contains-append_cases}
 use Rattle.std.proofs.lemmas.List.Kept.{AllPairs-cons, AllPairs-filter}
 use Rattle.arc_base.specs.declared.place.Link.{Link}
-use Rattle.arc_base.proofs.Items.{Contains-head, Contains-tail, Contains-cases, Contains-none, Contains-map, from_map, Contains-piece, Contains-filter, from_filter, All-from, AllPairs-among, AllPairs-map, AllPairs-none}
+use Rattle.arc_base.proofs.Items.{Contains-head, Contains-tail, Contains-cases, Contains-none, Contains-map, from_map}
+use Rattle.arc_base.proofs.Items.{Contains-piece, Contains-filter, from_filter, All-from, AllPairs-among, AllPairs-map, AllPairs-none}
 use Rattle.graph_flow.specs.Paths.{Digraph}
 use Rattle.graph_flow.specs.Sides.{AreLeftOver}
 use Rattle.graph_flow.specs.Laws.{HavePaths}
@@ -32,7 +34,8 @@ pub record Family (a chosen : ℕ → Bool) (q : Question) (nodes : ℕ) (used :
   pub goes_on : (node place : ℕ) → Contains (between q nodes) node → Contains (into q node) place → a (used place) ≡ true → (next : ℕ) × Contains (out_of q node) next × (a (used next) ≡ true)
   pub one_in : (node i j : ℕ) → node < nodes → Contains (into q node) i → Contains (into q node) j → (i ≡ j → ⊥) → a (used i) ≡ true → a (used j) ≡ true → ⊥
 
-pub family : (a chosen : ℕ → Bool) (nodes links edits : ℕ) (q : Question) (used : ℕ → ℕ) → IsSound nodes links edits q → Agrees a chosen edits → Fulfils a (family_parts q nodes used) → Family a chosen q nodes used
+pub family : (a chosen : ℕ → Bool) (nodes links edits : ℕ) (q : Question) (used : ℕ → ℕ) → IsSound nodes links edits q → Agrees a chosen edits →
+    Fulfils a (family_parts q nodes used) → Family a chosen q nodes used
 family a chosen nodes links edits q used sound g h =
     let start = map (λ (p : ℕ). yes (used p)) (out_of q q.source) in
     let end = map (λ (p : ℕ). yes (used p)) (into q q.target) in
@@ -67,7 +70,8 @@ family a chosen nodes links edits q used sound g h =
           (Contains-map (λ (p : ℕ). no (used p) ∷ map (λ (other : ℕ). yes (used other)) (out_of q node)) (into q node) place m)) on;
       one_in = λ node i j l m n ne s t.
           excluded a used (into q node) i j
-          (Fulfils-right a (exclusions used (out_of q node)) (exclusions used (into q node)) (Fulfils-piece a (once_parts q used) (upto nodes) node (Fulfils-right a (all ++ ends ++ back ++ away ++ nexts) onces h) (in_upto nodes node l))) m n ne s t;
+          (Fulfils-right a (exclusions used (out_of q node)) (exclusions used (into q node))
+          (Fulfils-piece a (once_parts q used) (upto nodes) node (Fulfils-right a (all ++ ends ++ back ++ away ++ nexts) onces h) (in_upto nodes node l))) m n ne s t;
     }
 
 -- a used place whose arc leads out of the side
@@ -94,7 +98,7 @@ goes_out true false z h = absurd (false≢true (sym h))
 goes_out true true true h = absurd (false≢true (sym h))
 goes_out true true false h = (refl, refl, refl)
 
--- the arcs that a family uses inside a side which none leaves would have one tail more than heads
+-- the arcs that a family uses inside a side which none leaves would have one more tail than heads
 no_escape : (a chosen : ℕ → Bool) (nodes links edits : ℕ) (q : Question) (used : ℕ → ℕ) (side : ℕ → Bool) → IsSound nodes links edits q → Family a chosen q nodes used →
     IsTrue (side q.source) → IsFalse (side q.target) →
     ((place : ℕ) → place < length q.arcs → a (used place) ≡ true → side (arc_at q place).tail ≡ true → side (arc_at q place).head ≡ true) → ⊥
@@ -103,8 +107,10 @@ no_escape a chosen nodes links edits q used side sound fam s_in t_out closed =
     let inside = filter test (places q) in
     let head = λ (p : ℕ). (arc_at q p).head in
     let tail = λ (p : ℕ). (arc_at q p).tail in
-    let of = λ (p : ℕ) (m : Contains inside p). let f = from_filter test (places q) p m in let b = and_parts (a (used p)) (side (tail p)) f.1 in let out : (p < length q.arcs) × (a (used p) ≡ true) × (side (tail p) ≡ true) = (below (length q.arcs) p f.0, b.0, b.1) in out in
-    let keep : (p : ℕ) → p < length q.arcs → a (used p) ≡ true → side (tail p) ≡ true → Contains inside p = λ p l on t. Contains-filter test (places q) p (in_upto (length q.arcs) p l) (and_from (a (used p)) (side (tail p)) on t) in
+    let of = λ (p : ℕ) (m : Contains inside p). let f = from_filter test (places q) p m in let b =
+    and_parts (a (used p)) (side (tail p)) f.1 in let out : (p < length q.arcs) × (a (used p) ≡ true) × (side (tail p) ≡ true) = (below (length q.arcs) p f.0, b.0, b.1) in out in
+    let keep : (p : ℕ) → p < length q.arcs → a (used p) ≡ true → side (tail p) ≡ true → Contains inside p =
+    λ p l on t. Contains-filter test (places q) p (in_upto (length q.arcs) p l) (and_from (a (used p)) (side (tail p)) on t) in
     let not_s : (p : ℕ) → p < length q.arcs → a (used p) ≡ true → head p ≡ q.source → ⊥ = λ p l on e.
     fam.not_back p (at_place q (λ arc. arc.head == q.source) p l (eq-eqb (head p) q.source e)) on in
     let differ : AllPairs (λ (x y : ℕ). x ≢ y) (map head inside) =
@@ -156,7 +162,7 @@ crosses a chosen nodes links edits q used side sound fam s_in t_out =
           record { place = some.0; is_place = below (length q.arcs) some.0 some.1; on = out.0; from_inside = out.1; to_outside = out.2 }
     ]
 
--- links of a cut over which the first so many families cross it, each over its own
+-- links of a cut over which the first `many` families cross it, each over its own
 record Crossed (a : ℕ → Bool) (q : Question) (used : ℕ → ℕ → ℕ) (cut : List Link) (many : ℕ) : Type 0 where
   links : List Link
   count : length links ≡ many
@@ -164,7 +170,7 @@ record Crossed (a : ℕ → Bool) (q : Question) (used : ℕ → ℕ → ℕ) (c
   in_cut : (k : Link) → Contains links k → Contains cut k
   over : (k : Link) → Contains links k → (family : ℕ) × (place : ℕ) × (family < many) × (place < length q.arcs) × (a (used family place) ≡ true) × ((arc_at q place).link ≡ k)
 
--- the families that cross over one link are one
+-- the families that cross over one link are one family
 over_one : (a : ℕ → Bool) (nodes links edits : ℕ) (q : Question) (many : ℕ) (used : ℕ → ℕ → ℕ) → IsSound nodes links edits q →
     Fulfils a (flat_map (λ (link : ℕ). exclusions (λ (item : ℕ × ℕ). used item.0 item.1) (over_link q many link)) (upto links)) →
     (f g i j : ℕ) → f < g → g < many → i < length q.arcs → j < length q.arcs → a (used f i) ≡ true → a (used g j) ≡ true → (arc_at q i).link ≡ (arc_at q j).link → ⊥
@@ -173,7 +179,8 @@ over_one a nodes links edits q many used sound h f g i j l m at_i at_j on_i on_j
     let below_links : link < links = All-contains (λ (arc : ConditionArc). arc.link.0 < links) q.arcs (arc_at q i) sound.of_links (is_arc q i at_i) in
     let item : (k p : ℕ) → k < many → p < length q.arcs → (arc_at q p).link.0 ≡ link → Contains {X = ℕ × ℕ} (over_link q many link) (k, p) = λ k p lk lp e.
     Contains-piece (λ (family : ℕ). map (λ (place : ℕ). (family, place)) (filter (λ (place : ℕ). (arc_at q place).link.0 == link) (places q))) (upto many) k (k, p) (in_upto many k lk)
-    (Contains-map (λ (place : ℕ). (k, place)) (filter (λ (place : ℕ). (arc_at q place).link.0 == link) (places q)) p (at_place q (λ arc. arc.link.0 == link) p lp (eq-eqb (arc_at q p).link.0 link e))) in
+    (Contains-map (λ (place : ℕ). (k, place)) (filter (λ (place : ℕ). (arc_at q place).link.0 == link) (places q)) p
+    (at_place q (λ arc. arc.link.0 == link) p lp (eq-eqb (arc_at q p).link.0 link e))) in
     excluded {X = ℕ × ℕ} a (λ (x : ℕ × ℕ). used x.0 x.1) (over_link q many link) (f, i) (g, j)
     (Fulfils-piece a (λ (k : ℕ). exclusions (λ (x : ℕ × ℕ). used x.0 x.1) (over_link q many k)) (upto links) link h (in_upto links link below_links))
     (item f i (omega arith) at_i refl) (item g j m at_j (ap (λ (k : Link). k.0) (sym same)))
@@ -203,7 +210,8 @@ crossed a chosen nodes links edits q all used side cut sound h fams s_in t_out l
           let o = rest.over k m in
           over_one a nodes links edits q all used sound h o.0 many o.1 c.place o.2 lt o.3 c.is_place o.4 c.on (o.5 ∙ sym e))) rest.different;
       in_cut = λ k m. elim (Contains-cases link k rest.links m) [
-        | inl e ↦ subst (λ (x : Link). Contains cut x) e (left.each (bare (arc_at q c.place)) (routed_at chosen q c.place c.is_place (fam.routed c.place c.is_place c.on)) (record { from_inside = c.from_inside; to_outside = c.to_outside }))
+        | inl e ↦ subst (λ (x : Link). Contains cut x) e
+            (left.each (bare (arc_at q c.place)) (routed_at chosen q c.place c.is_place (fam.routed c.place c.is_place c.on)) (record { from_inside = c.from_inside; to_outside = c.to_outside }))
         | inr later ↦ rest.in_cut k later
       ];
       over = λ k m. elim (Contains-cases link k rest.links m) [
@@ -212,7 +220,7 @@ crossed a chosen nodes links edits q all used side cut sound h fams s_in t_out l
       ];
     }
 
--- in a model of reach so many paths share no link
+-- a model of reach has `many` link-disjoint paths
 pub paths_from_model : (a chosen : ℕ → Bool) (nodes links edits : ℕ) (q : Question) (many : ℕ) (used : ℕ → ℕ → ℕ) → IsSound nodes links edits q → Agrees a chosen edits → q.source ≢ q.target →
     Fulfils a (paths_parts q nodes links many used) → HavePaths (routed_arcs chosen q) q.source q.target many
 paths_from_model a chosen nodes links edits q many used sound g apart h =
@@ -226,12 +234,13 @@ paths_from_model a chosen nodes links edits q many used sound g apart h =
     elim (paths_or_cut graph (routed-graph nodes links edits chosen q sound) q.source q.target many sound.source sound.target apart) [
       | inl paths ↦ paths
       | inr cut ↦
-          let c : Crossed a q used cut.links many = crossed a chosen nodes links edits q many used cut.side cut.links sound (Fulfils-right a (clears ++ families) overs h) fams cut.separates.source cut.separates.target cut.left_over many (omega arith) in
+          let c : Crossed a q used cut.links many = crossed a chosen nodes links edits q many used cut.side cut.links sound
+          (Fulfils-right a (clears ++ families) overs h) fams cut.separates.source cut.separates.target cut.left_over many (omega arith) in
           let few : length c.links ≤ length cut.links = fit_into c.links cut.links c.different c.in_cut in
           absurd (omega (arith, few, c.count, cut.few))
     ]
 
--- and each routed arc is clear
+-- in a model of reach each routed arc is clear
 pub clear_from_model : (a chosen : ℕ → Bool) (nodes links edits : ℕ) (q : Question) (many : ℕ) (used : ℕ → ℕ → ℕ) → IsSound nodes links edits q → Agrees a chosen edits →
     Fulfils a (paths_parts q nodes links many used) → (class : ℕ) → class < length q.classes → (arc : ConditionArc) → Contains q.arcs arc → IsTrue (is_routed chosen arc) → IsClearArc chosen class arc
 clear_from_model a chosen nodes links edits q many used sound g h class l arc m routed =
@@ -239,7 +248,8 @@ clear_from_model a chosen nodes links edits q many used sound g h class l arc m 
     let families = flat_map (λ (f : ℕ). family_parts q nodes (used f)) (upto many) in
     let overs = flat_map (λ (link : ℕ). exclusions (λ (item : ℕ × ℕ). used item.0 item.1) (over_link q many link)) (upto links) in
     let both : Fulfils a (clear_parts class arc) = Fulfils-piece a (clear_parts class) q.arcs arc
-    (Fulfils-piece a (λ (c : ℕ). flat_map (clear_parts c) q.arcs) (upto (length q.classes)) class (Fulfils-left a clears families (Fulfils-left a (clears ++ families) overs h)) (in_upto (length q.classes) class l)) m in
+    (Fulfils-piece a (λ (c : ℕ). flat_map (clear_parts c) q.arcs) (upto (length q.classes)) class (Fulfils-left a clears families (Fulfils-left a (clears ++ families) overs h))
+    (in_upto (length q.classes) class l)) m in
     let has : HasEdits edits arc = All-contains (HasEdits edits) q.arcs arc sound.arcs m in
     let out = (lists_of arc class).outbound in
     let ins = (lists_of arc class).inbound in

@@ -7,12 +7,13 @@ use Rattle.std.proofs.Math.ListN.{get_or-append}
 use Rattle.std.proofs.Math.Seq.{get_or-append_seam}
 use Rattle.std.proofs.lemmas.List.Elements.{Contains-append_left, Contains-append_right, Contains-get_or}
 use Rattle.std.proofs.lemmas.List.Kept.{AllPairs-cons}
-use Rattle.arc_base.proofs.Items.{Contains-head, Contains-tail, Contains-cases, Contains-none, Contains-piece, All-from, AllPairs-rest, AllPairs-first, AllPairs-append, AllPairs-none, AllPairs-single, AllPairs-unmap}
+use Rattle.arc_base.proofs.Items.{Contains-head, Contains-tail, Contains-cases, Contains-none, Contains-piece, All-from}
+use Rattle.arc_base.proofs.Items.{AllPairs-rest, AllPairs-first, AllPairs-append, AllPairs-none, AllPairs-single, AllPairs-unmap}
 use Rattle.graph_flow.proofs.Lists.{Without, without}
 use Rattle.condition_formula.proofs.Places.{below}
 use Rattle.condition_formula.specs.Lists.{upto}
 
--- items that differ and all stand in a list are no more than its items
+-- different items that are all in a list are no more than its items
 pub fit_into : {X : Type 0} (xs ys : List X) → AllPairs (λ (x y : X). x ≢ y) xs → ((x : X) → Contains xs x → Contains ys x) → length xs ≤ length ys
 fit_into [] ys d h = omega arith
 fit_into {X} (x ∷ xs) ys d h =
@@ -21,7 +22,7 @@ fit_into {X} (x ∷ xs) ys d h =
     (λ y m. w.others y (h y (Contains-tail x y xs m)) (AllPairs-first (λ (a b : X). a ≢ b) x y xs d m)) in
     omega (arith, rest, w.shorter)
 
--- two items are the same or are related one way or the other
+-- two items are equal, or are related one way or the other
 pub members : {X : Type 0} (R : X → X → Type 0) (xs : List X) (x y : X) → AllPairs R xs → Contains xs x → Contains xs y → (x ≡ y) ⊎ (R x y ⊎ R y x)
 members R [] x y p a b = absurd (Contains-none x a)
 members {X} R (z ∷ xs) x y p a b =
@@ -36,7 +37,7 @@ members {X} R (z ∷ xs) x y p a b =
       ]
     ]
 
--- where a function takes different values at all items, two items with the same value are one
+-- if a function takes different values at all items, two items with one value are equal
 pub same_item : {X Y : Type 0} (f : X → Y) (xs : List X) (x y : X) → AllPairs (λ (a b : Y). a ≢ b) (map f xs) → Contains xs x → Contains xs y → f x ≡ f y → x ≡ y
 same_item {X} {Y} f xs x y d a b e =
     elim (members (λ (v w : X). f v ≢ f w) xs x y (AllPairs-unmap (λ (v w : Y). v ≢ w) f xs d) a b) [
@@ -65,13 +66,13 @@ AllPairs-across {X} R (z ∷ xs) ys x y p a b =
       | inr m ↦ AllPairs-across R xs ys x y (AllPairs-rest R z (xs ++ ys) p) m b
     ]
 
--- in a list of lists whose items all differ, those of one list do
+-- in a list of lists whose items all differ, those of each list differ
 pub piece_differs : {X : Type 0} (xss : List (List X)) (k : ℕ) → AllPairs (λ (x y : X). x ≢ y) (flat_map (λ xs. xs) xss) → k < length xss → AllPairs (λ (x y : X). x ≢ y) (get_or xss k [])
 piece_differs [] k d l = absurd (omega arith)
 piece_differs {X} (xs ∷ xss) zero d l = AllPairs-left (λ (x y : X). x ≢ y) xs (flat_map (λ ys. ys) xss) d
 piece_differs {X} (xs ∷ xss) (suc k) d l = piece_differs xss k (AllPairs-right (λ (x y : X). x ≢ y) xs (flat_map (λ ys. ys) xss) d) (omega arith)
 
--- and no item stands in two of them
+-- in a list of lists whose items all differ, no item is in two of the lists
 pub pieces_apart : {X : Type 0} (xss : List (List X)) (i j : ℕ) (x : X) → AllPairs (λ (x y : X). x ≢ y) (flat_map (λ xs. xs) xss) → i < j → j < length xss →
     Contains (get_or xss i []) x → Contains (get_or xss j []) x → ⊥
 pieces_apart [] i j x d l m a b = omega arith

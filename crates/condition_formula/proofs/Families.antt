@@ -1,5 +1,6 @@
 -- Clauses of reach, from the network to a model: each family is the arcs of a path.
-use Rattle.std.proofs.Common.{◌≡◌, ◌≢◌, ℕ, zero, suc, ◌<◌, Bool, true, false, not, ◌&&◌, ◌||◌, IsTrue, List, [], ◌∷◌, ◌++◌, length, map, filter, AllPairs, Contains, inl, inr, ◌⊎◌, refl, sym, ap, ◌∙◌, subst, arith}
+use Rattle.std.proofs.Common.{◌≡◌, ◌≢◌, ℕ, zero, suc, ◌<◌, Bool, true, false, not, ◌&&◌, ◌||◌, IsTrue, List, []}
+use Rattle.std.proofs.Common.{◌∷◌, ◌++◌, length, map, filter, AllPairs, Contains, inl, inr, ◌⊎◌, refl, sym, ap, ◌∙◌, subst, arith}
 use Rattle.std.specs.Prelude.{◌==◌}
 use Rattle.std.specs.List.{list_any, flat_map}
 use Rattle.std.proofs.lemmas.Bool.{cases_Bool, eq-eqb, eqb-true, or_left, or_right, and_parts, and_from}
@@ -35,7 +36,7 @@ placed a chosen q used s t way path is arc m =
     let r = from_routed chosen q arc (over (routed_arcs chosen q) s t way path arc m) in
     (r.0, r.1, r.2, is.from r.0 r.1 (subst (λ (x : Arc). Contains way x) (sym r.2) m))
 
--- a clause that the first is not used or some other is
+-- a clause that the first is not used or one of the others is
 implies_some : (a : ℕ → Bool) (used : ℕ → ℕ) (place : ℕ) (others : List ℕ) → (a (used place) ≡ true → (p : ℕ) × Contains others p × (a (used p) ≡ true)) →
     IsTrue (parts_value a (no (used place) ∷ map (λ (p : ℕ). yes (used p)) others))
 implies_some a used place others h =
@@ -116,7 +117,8 @@ family_true a chosen nodes links edits q used way sound g apart path once is =
     (excludes (λ (i j : ℕ). i < j) a used (out_of q n) (places-rising q (λ arc. arc.tail == n)) (λ i j x y less on_i on_j.
     let u = at_tail n i x in
     let v = at_tail n j y in
-    let same : i ≡ j = one_place nodes links edits q sound i j u.0 v.0 (one_out_of arcs s t way path once (bare (arc_at q i)) (bare (arc_at q j)) (is.to i u.0 on_i) (is.to j v.0 on_j) (u.1 ∙ sym v.1)) in
+    let same : i ≡ j = one_place nodes links edits q sound i j u.0 v.0
+    (one_out_of arcs s t way path once (bare (arc_at q i)) (bare (arc_at q j)) (is.to i u.0 on_i) (is.to j v.0 on_j) (u.1 ∙ sym v.1)) in
     omega (arith, same, less)))
     (excludes (λ (i j : ℕ). i < j) a used (into q n) (places-rising q (λ arc. arc.head == n)) (λ i j x y less on_i on_j.
     let u = at_head n i x in
@@ -166,15 +168,18 @@ follows a chosen q used s t way path is = record {
 }
 
 -- a routed arc that is clear makes its clauses true, and so does one that is not routed
-clear_true : (a chosen : ℕ → Bool) (edits class : ℕ) (arc : ConditionArc) → Agrees a chosen edits → HasEdits edits arc → (IsTrue (is_routed chosen arc) → IsClearArc chosen class arc) → Fulfils a (clear_parts class arc)
+clear_true : (a chosen : ℕ → Bool) (edits class : ℕ) (arc : ConditionArc) → Agrees a chosen edits → HasEdits edits arc →
+    (IsTrue (is_routed chosen arc) → IsClearArc chosen class arc) → Fulfils a (clear_parts class arc)
 clear_true a chosen edits class arc g has clear =
     let out = (lists_of arc class).outbound in
     let ins = (lists_of arc class).inbound in
     let says : (c : Condition) → IsOfEdits edits c → (IsTrue (is_routed chosen arc) → holds chosen c ≡ true) → IsTrue (parts_value a (map denied arc.routing ++ affirmed c ∷ [])) = λ c of h.
     elim (all_or_some (holds chosen) arc.routing) [
-      | inl routed ↦ any_from (part_value a) (map denied arc.routing ++ affirmed c ∷ []) (affirmed c) (Contains-append_right (map denied arc.routing) (affirmed c ∷ []) (affirmed c) (Contains-head (affirmed c) []))
+      | inl routed ↦ any_from (part_value a) (map denied arc.routing ++ affirmed c ∷ []) (affirmed c)
+          (Contains-append_right (map denied arc.routing) (affirmed c ∷ []) (affirmed c) (Contains-head (affirmed c) []))
           (affirmed_is a chosen edits c g of ∙ h routed)
-      | inr d ↦ any_from (part_value a) (map denied arc.routing ++ affirmed c ∷ []) (denied d.0) (Contains-append_left (map denied arc.routing) (affirmed c ∷ []) (denied d.0) (Contains-map denied arc.routing d.0 d.1))
+      | inr d ↦ any_from (part_value a) (map denied arc.routing ++ affirmed c ∷ []) (denied d.0)
+          (Contains-append_left (map denied arc.routing) (affirmed c ∷ []) (denied d.0) (Contains-map denied arc.routing d.0 d.1))
           (denied_is a chosen edits d.0 g (All-contains (IsOfEdits edits) arc.routing d.0 has.routing d.1) ∙ ap not d.2)
     ] in
     Fulfils-cons a (map denied arc.routing ++ affirmed out ∷ []) ((map denied arc.routing ++ affirmed ins ∷ []) ∷ []) (says out (has.lists class).0 (λ r. (clear r).outbound))
@@ -197,8 +202,9 @@ from_item q many link x m =
 abbrev Rises : ℕ × ℕ → ℕ × ℕ → Type 0
 Rises x y = (x.0 < y.0) ⊎ ((x.0 ≡ y.0) × (x.1 < y.1))
 
--- the items of one family more
-pub more-items : (q : Question) (link many : ℕ) → over_link q (suc many) link ≡ over_link q many link ++ map (λ (place : ℕ). (many, place)) (filter (λ (place : ℕ). (arc_at q place).link.0 == link) (places q))
+-- the items with one more family
+pub more-items : (q : Question) (link many : ℕ) →
+    over_link q (suc many) link ≡ over_link q many link ++ map (λ (place : ℕ). (many, place)) (filter (λ (place : ℕ). (arc_at q place).link.0 == link) (places q))
 more-items q link many =
     let row : ℕ → List (ℕ × ℕ) = λ family. map (λ (place : ℕ). (family, place)) (filter (λ (place : ℕ). (arc_at q place).link.0 == link) (places q)) in
     flat_map-append row (upto many) (many ∷ []) ∙ ap (λ (xs : List (ℕ × ℕ)). over_link q many link ++ xs) (append-nil (row many))
@@ -209,14 +215,15 @@ items-rise q link (suc many) =
     let at = filter (λ (place : ℕ). (arc_at q place).link.0 == link) (places q) in
     let last = map (λ (place : ℕ). (many, place)) at in
     let whole : AllPairs Rises (over_link q many link ++ last) = AllPairs-append Rises (over_link q many link) last (items-rise q link many)
-    (AllPairs-map Rises (λ (place : ℕ). (many, place)) at (AllPairs-among (λ (i j : ℕ). i < j) (λ (i j : ℕ). Rises (many, i) (many, j)) at (λ i j m n l. inr (refl, l)) (places-rising q (λ arc. arc.link.0 == link))))
+    (AllPairs-map Rises (λ (place : ℕ). (many, place)) at
+    (AllPairs-among (λ (i j : ℕ). i < j) (λ (i j : ℕ). Rises (many, i) (many, j)) at (λ i j m n l. inr (refl, l)) (places-rising q (λ arc. arc.link.0 == link))))
     (λ x y m n.
     let f = from_item q many link x m in
     let p = from_map {X = ℕ} {Y = ℕ × ℕ} (λ (place : ℕ). (many, place)) at y n in
     inl (subst (λ (k : ℕ). x.0 < k) (ap (λ (z : ℕ × ℕ). z.0) p.2) f.0)) in
     subst (λ (xs : List (ℕ × ℕ)). AllPairs Rises xs) (sym (more-items q link many)) whole
 
--- where the ways lead and the routed arcs are clear, the clauses of reach are true
+-- if the ways lead there and the routed arcs are clear, the clauses of reach are true
 pub paths_true : (a chosen : ℕ → Bool) (nodes links edits : ℕ) (q : Question) (many : ℕ) (used : ℕ → ℕ → ℕ) → IsSound nodes links edits q → Agrees a chosen edits → q.source ≢ q.target →
     (w : Ways (routed_arcs chosen q) q.source q.target many) →
     ((class : ℕ) → class < length q.classes → (arc : ConditionArc) → Contains q.arcs arc → IsTrue (is_routed chosen arc) → IsClearArc chosen class arc) →
@@ -229,7 +236,8 @@ paths_true a chosen nodes links edits q many used sound g apart w clear is =
     Fulfils-append a (clears ++ families) overs
     (Fulfils-append a clears families
     (Fulfils-flat_map a (λ (class : ℕ). flat_map (clear_parts class) q.arcs) (upto (length q.classes)) (λ class m.
-    Fulfils-flat_map a (clear_parts class) q.arcs (λ arc n. clear_true a chosen edits class arc g (All-contains (HasEdits edits) q.arcs arc sound.arcs n) (clear class (below (length q.classes) class m) arc n))))
+    Fulfils-flat_map a (clear_parts class) q.arcs
+    (λ arc n. clear_true a chosen edits class arc g (All-contains (HasEdits edits) q.arcs arc sound.arcs n) (clear class (below (length q.classes) class m) arc n))))
     (Fulfils-flat_map a (λ (f : ℕ). family_parts q nodes (used f)) (upto many) (λ f m.
     let l : f < many = below many f m in
     family_true a chosen nodes links edits q (used f) (w.way f) sound g apart (w.leads f l) (w.once f l) (fol f l))))

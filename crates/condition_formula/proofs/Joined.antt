@@ -1,5 +1,6 @@
 -- The clauses of all questions and of the prices together: they share the variables of the edits alone, so models join.
-use Rattle.std.proofs.Common.{◌≡◌, ◌≢◌, ℕ, suc, ◌+◌, ◌-◌, ◌*◌, ◌/◌, ◌%◌, ◌<◌, ◌≤◌, Bool, true, false, not, cond, Option, IsTrue, List, [], ◌∷◌, length, map, All, inl, inr, refl, sym, ap, ◌∙◌, subst, arith, Some, None, sum_by}
+use Rattle.std.proofs.Common.{◌≡◌, ◌≢◌, ℕ, suc, ◌+◌, ◌-◌, ◌*◌, ◌/◌, ◌%◌, ◌<◌, ◌≤◌, Bool, true, false, not, cond, Option}
+use Rattle.std.proofs.Common.{IsTrue, List, [], ◌∷◌, length, map, All, inl, inr, refl, sym, ap, ◌∙◌, subst, arith, Some, None, sum_by}
 use Rattle.std.specs.Prelude.{◌==◌, if◌then◌else◌, nat_lt, slice_get, IfSome}
 use Rattle.std.specs.List.{flat_map}
 use Rattle.std.proofs.lemmas.Bool.{cases_lt, cases_eq, eq-eqb, eqb-false, ne_eqb, lt-ltb, le-ltb, ltb-true, cond-true, cond-false, or_left, false≢true, both_ways, not-true}
@@ -45,8 +46,10 @@ ends_from_model a chosen nodes links edits q sound g h class l =
     let enters = affirmed (ends_of q class).enter ∷ [] in
     let leaves = affirmed (ends_of q class).leave ∷ [] in
     record {
-      enter = sym (affirmed_is a chosen edits (ends_of q class).enter g (sound.ends class).0) ∙ only_one (part_value a (affirmed (ends_of q class).enter)) (both enters (Contains-head enters (leaves ∷ [])));
-      leave = sym (affirmed_is a chosen edits (ends_of q class).leave g (sound.ends class).1) ∙ only_one (part_value a (affirmed (ends_of q class).leave)) (both leaves (Contains-tail enters leaves (leaves ∷ []) (Contains-head leaves [])));
+      enter = sym (affirmed_is a chosen edits (ends_of q class).enter g (sound.ends class).0)
+          ∙ only_one (part_value a (affirmed (ends_of q class).enter)) (both enters (Contains-head enters (leaves ∷ [])));
+      leave = sym (affirmed_is a chosen edits (ends_of q class).leave g (sound.ends class).1)
+          ∙ only_one (part_value a (affirmed (ends_of q class).leave)) (both leaves (Contains-tail enters leaves (leaves ∷ []) (Contains-head leaves [])));
     }
 
 -- a model of a question meets it
@@ -83,7 +86,7 @@ record Own (chosen : ℕ → Bool) (nodes links edits : ℕ) (q : Question) (d :
   worth : ℕ → Bool
   serves : (a : ℕ → Bool) (first : ℕ) → Agrees a chosen edits → ((k : ℕ) → k < demand_size q nodes d → a (first + k) ≡ worth k) → Fulfils a (demand_parts q nodes links first d)
 
--- what stands at the row and the column of a table is found at its place
+-- what a table has at a row and a column is found at the place of their cell
 at_cell : {X : Type 0} (f : ℕ → ℕ → X) (columns row column : ℕ) → column < columns → f ((row * columns + column) / columns) ((row * columns + column) % columns) ≡ f row column
 at_cell {X} f columns row column l =
     ap (λ (r : ℕ). f r ((row * columns + column) % columns)) (div-mul-add row columns column l) ∙ ap (f row) (mod-mul-add row columns column l)
@@ -107,7 +110,8 @@ ends_true a chosen nodes links edits q sound g pass =
     Fulfils-cons a enters (leaves ∷ []) (or_left (part_value a (affirmed (ends_of q class).enter)) false (affirmed_is a chosen edits (ends_of q class).enter g (sound.ends class).0 ∙ p.enter))
     (Fulfils-cons a leaves [] (or_left (part_value a (affirmed (ends_of q class).leave)) false (affirmed_is a chosen edits (ends_of q class).leave g (sound.ends class).1 ∙ p.leave)) (Fulfils-none a)))
 
-own_reached : (chosen : ℕ → Bool) (nodes links edits many : ℕ) (q : Question) → IsSound nodes links edits q → AreReached chosen q many → (b : Bool) → (q.source == q.target) ≡ b → Own chosen nodes links edits q (Reach many)
+own_reached : (chosen : ℕ → Bool) (nodes links edits many : ℕ) (q : Question) → IsSound nodes links edits q → AreReached chosen q many → (b : Bool) →
+    (q.source == q.target) ≡ b → Own chosen nodes links edits q (Reach many)
 own_reached chosen nodes links edits many q sound met true e = record {
   worth = λ k. false;
   serves = λ a first g is.
@@ -128,7 +132,8 @@ own_reached chosen nodes links edits many q sound met false e =
           (ends_true a chosen nodes links edits q sound g met.ends)
           (arms a (q.source == q.target) [] (paths_parts q nodes links many used) (λ t. absurd (both_ways (q.source == q.target) e t)) (λ f.
           paths_true a chosen nodes links edits q many used sound g ne w (met.clear ne) (λ family place l m.
-          is (family * length q.arcs + place) (subst (λ (n : ℕ). family * length q.arcs + place < n) (sym (cond-false (q.source == q.target) 0 (many * length q.arcs) e)) (in_table many (length q.arcs) family place l m))
+          is (family * length q.arcs + place)
+          (subst (λ (n : ℕ). family * length q.arcs + place < n) (sym (cond-false (q.source == q.target) 0 (many * length q.arcs) e)) (in_table many (length q.arcs) family place l m))
           ∙ at_cell on (length q.arcs) family place m)));
     }
 
@@ -153,7 +158,8 @@ all_own chosen nodes links edits first [] sound met = record { worth = λ v. fal
 all_own chosen nodes links edits first (q ∷ qs) sound met =
     let size = question_size nodes q in
     let mine : Own chosen nodes links edits q q.demand = own chosen nodes links edits q q.demand (All-head (IsSound nodes links edits) q qs sound) (All-head (IsMet chosen) q qs met) in
-    let rest : AllOwn chosen nodes links edits (first + size) qs = all_own chosen nodes links edits (first + size) qs (All-tail (IsSound nodes links edits) q qs sound) (All-tail (IsMet chosen) q qs met) in
+    let rest : AllOwn chosen nodes links edits (first + size) qs =
+    all_own chosen nodes links edits (first + size) qs (All-tail (IsSound nodes links edits) q qs sound) (All-tail (IsMet chosen) q qs met) in
     let sum : sum_by (question_size nodes) (q ∷ qs) ≡ size + sum_by (question_size nodes) qs = sum_by-cons (question_size nodes) q qs in
     record {
       worth = λ v. cond (nat_lt v (first + size)) (mine.worth (v - first)) (rest.worth v);
@@ -168,31 +174,34 @@ all_own chosen nodes links edits first (q ∷ qs) sound met =
           ∙ cond-false (nat_lt v (first + size)) (mine.worth (v - first)) (rest.worth v) (le-ltb v (first + size) l)));
     }
 
--- The tops.
+-- The literals of the price.
 
--- the literal that the whole price is above the number
+-- the literal that says that the price is above the number
 abbrev top_at : ConditionNet → ℕ → ℕ → Lit
 top_at net most number = literal (cell (first_price net) (most + 1) (length net.weights - 1) number) true
 
--- where there are no edits there are no tops, and where there are some the top of a number up to the bound is its literal
+-- without edits there are no literals of the price; with edits each number up to the bound has its literal
 top_none : (net : ConditionNet) (most number : ℕ) (top : Lit) → (b : Bool) → b ≡ true → slice_get (if b then [] else map (top_at net most) (upto (most + 1))) number ≡ Some top → ⊥
 top_none net most number top true e h = let none : None ≡ Some top = h in cc
 top_none net most number top false e h = absurd (false≢true e)
 
-top_is : (net : ConditionNet) (most number : ℕ) (top : Lit) → number ≤ most → (b : Bool) → b ≡ false → slice_get (if b then [] else map (top_at net most) (upto (most + 1))) number ≡ Some top → top_at net most number ≡ top
+top_is : (net : ConditionNet) (most number : ℕ) (top : Lit) → number ≤ most → (b : Bool) → b ≡ false →
+    slice_get (if b then [] else map (top_at net most) (upto (most + 1))) number ≡ Some top → top_at net most number ≡ top
 top_is net most number top l true e h = absurd (false≢true (sym e))
 top_is net most number top l false e h =
     ap (top_at net most) (sym (get_or-upto (most + 1) number 0 (omega arith)))
     ∙ sym (get_or-map (top_at net most) (upto (most + 1)) number 0 top (omega (arith, length-upto (most + 1))))
     ∙ get_or_from_slice_get (map (top_at net most) (upto (most + 1))) number top top h
 
-top_there : (net : ConditionNet) (most number : ℕ) → number ≤ most → (b : Bool) → b ≡ false → slice_get (if b then [] else map (top_at net most) (upto (most + 1))) number ≡ Some (top_at net most number)
+top_there : (net : ConditionNet) (most number : ℕ) → number ≤ most → (b : Bool) → b ≡ false →
+    slice_get (if b then [] else map (top_at net most) (upto (most + 1))) number ≡ Some (top_at net most number)
 top_there net most number l true e = absurd (false≢true (sym e))
 top_there net most number l false e =
     slice_get-get_or (map (top_at net most) (upto (most + 1))) number (top_at net most number) (omega (arith, length-map (upto (most + 1)) (top_at net most), length-upto (most + 1)))
-    ∙ ap Some (get_or-map (top_at net most) (upto (most + 1)) number 0 (top_at net most number) (omega (arith, length-upto (most + 1))) ∙ ap (top_at net most) (get_or-upto (most + 1) number 0 (omega arith)))
+    ∙ ap Some (get_or-map (top_at net most) (upto (most + 1)) number 0 (top_at net most number) (omega (arith, length-upto (most + 1)))
+    ∙ ap (top_at net most) (get_or-upto (most + 1) number 0 (omega arith)))
 
--- what holds of the item that is there
+-- what holds of an optional item holds of the item that is there
 if_some_to : (o : Option Lit) (P : Lit → Type 0) (top : Lit) → o ≡ Some top → IfSome o P → P top
 if_some_to o P top e h = let g : IfSome (Some top) P = subst (λ (x : Option Lit). IfSome x P) e h in g
 
@@ -200,7 +209,7 @@ if_some_from : (o : Option Lit) (P : Lit → Type 0) → ((top : Lit) → o ≡ 
 if_some_from None P h = tt
 if_some_from (Some top) P h = h top refl
 
--- the negation of a variable's literal is worth the opposite
+-- the negation of a variable's literal has the opposite value
 negated_value : (a : ℕ → Bool) (v : ℕ) → value a (negated (literal v true)) ≡ not (a v)
 negated_value a v =
     let even : ((2 * v) % 2 == 0) ≡ true = eq-eqb ((2 * v) % 2) 0 (omega arith) in
@@ -230,7 +239,8 @@ price_kept net most bound a chosen le g h keeps =
           ]
     ]
 
-pub repair_from_model : (net : ConditionNet) (most : ℕ) (flags : List Bool) (bound : ℕ) → IsSoundNet net → length flags ≡ length net.weights → bound ≤ most → HasModel net most flags bound → IsRepair net flags bound
+pub repair_from_model : (net : ConditionNet) (most : ℕ) (flags : List Bool) (bound : ℕ) → IsSoundNet net → length flags ≡ length net.weights → bound ≤ most →
+    HasModel net most flags bound → IsRepair net flags bound
 repair_from_model net most flags bound sound count le model =
     let a = model.assignment in
     let n = length net.weights in
@@ -280,7 +290,8 @@ one_model_serves net most flags sound count met =
     let a = joined n first columns chosen mine.worth costs in
     let g : Agrees a chosen n = λ edit l. joined-edit n first columns chosen mine.worth costs edit l in
     let above = cell first columns in
-    let price_is : (edit number : ℕ) → number ≤ most → a (above edit number) ≡ costs edit number = λ edit number l. joined-price n first columns chosen mine.worth costs edit number (omega arith) (omega arith) in
+    let price_is : (edit number : ℕ) → number ≤ most → a (above edit number) ≡ costs edit number =
+    λ edit number l. joined-price n first columns chosen mine.worth costs edit number (omega arith) (omega arith) in
     record {
       assignment = a;
       begins = λ edit l. g edit (omega (arith, count));
@@ -319,8 +330,13 @@ questions_are_exact chosen nodes links edits first q sound l = (
   λ met.
       let mine : Own chosen nodes links edits q q.demand = own chosen nodes links edits q q.demand sound met in
       let a = alone edits first chosen mine.worth in
-      let g : Agrees a chosen edits = λ edit m. cond-true (nat_lt (edit + 1) (edits + 1)) (chosen (edit + 1 - 1)) (mine.worth (edit + 1 - first)) (lt-ltb (edit + 1) (edits + 1) (omega arith)) ∙ ap chosen (omega arith) in
-      (a, g, mine.serves a first g (λ k m. cond-false (nat_lt (first + k) (edits + 1)) (chosen (first + k - 1)) (mine.worth (first + k - first)) (le-ltb (first + k) (edits + 1) (omega arith)) ∙ ap mine.worth (omega arith))),
+      let g : Agrees a chosen edits = λ edit m. cond-true (nat_lt (edit + 1) (edits + 1)) (chosen (edit + 1 - 1)) (mine.worth (edit + 1 - first))
+      (lt-ltb (edit + 1) (edits + 1) (omega arith)) ∙ ap chosen (omega arith) in (
+        a,
+        g,
+        mine.serves a first g
+            (λ k m. cond-false (nat_lt (first + k) (edits + 1)) (chosen (first + k - 1)) (mine.worth (first + k - first)) (le-ltb (first + k) (edits + 1) (omega arith)) ∙ ap mine.worth (omega arith)),
+      ),
 )
 
 one_more : (edit : ℕ) → edit + 1 ≡ suc edit

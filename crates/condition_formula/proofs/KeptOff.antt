@@ -26,7 +26,7 @@ stays : (arcs : List Arc) (P : ℕ → Type 0) → ((arc : Arc) → Contains arc
 stays arcs P closed u v [] p h = subst P p h
 stays arcs P closed u v (arc ∷ way) p h = stays arcs P closed arc.head v way p.2 (closed arc p.0 (subst P (sym p.1) h))
 
--- the conditions of an arc speak of the edits that there are
+-- the conditions of an arc are about edits that there are
 pub of_conditions : (edits : ℕ) (arc : ConditionArc) (class : ℕ) (c : Condition) → HasEdits edits arc → Contains (conditions_of arc class) c → IsOfEdits edits c
 of_conditions edits arc class c has m =
     let out = (lists_of arc class).outbound in
@@ -42,7 +42,7 @@ of_conditions edits arc class c has m =
       ]
     ]
 
--- a clause over a step: its head is true where its tail is and all conditions hold
+-- a true clause of a step: its head is true if its tail is and all conditions hold
 step_leads : (a chosen : ℕ → Bool) (edits class : ℕ) (reached : ℕ → ℕ) (arc : ConditionArc) → Agrees a chosen edits → HasEdits edits arc →
     is_open chosen class arc ≡ true → IsTrue (parts_value a (step_parts reached class arc)) → a (reached arc.tail) ≡ true → a (reached arc.head) ≡ true
 step_leads a chosen edits class reached arc g has passes t from =
@@ -62,7 +62,7 @@ step_leads a chosen edits class reached arc g has passes t from =
       ]
     ]
 
--- and where that is so, the clause is true
+-- if the head is true whenever the tail is and all conditions hold, the clause is true
 step_true : (a chosen : ℕ → Bool) (edits class : ℕ) (reached : ℕ → ℕ) (arc : ConditionArc) → Agrees a chosen edits → HasEdits edits arc →
     (is_open chosen class arc ≡ true → a (reached arc.tail) ≡ true → a (reached arc.head) ≡ true) → IsTrue (parts_value a (step_parts reached class arc))
 step_true a chosen edits class reached arc g has leads =
@@ -71,7 +71,8 @@ step_true a chosen edits class reached arc g has leads =
     elim (all_or_some (holds chosen) cs) [
       | inl passes ↦ elim (cases_Bool (a (reached arc.tail))) [
         | inl t ↦ any_from (part_value a) (step_parts reached class arc) (yes (reached arc.head))
-            (Contains-tail (no (reached arc.tail)) (yes (reached arc.head)) rest (Contains-append_right (map denied cs) (yes (reached arc.head) ∷ []) (yes (reached arc.head)) (Contains-head (yes (reached arc.head)) []))) (leads passes t)
+            (Contains-tail (no (reached arc.tail)) (yes (reached arc.head)) rest
+            (Contains-append_right (map denied cs) (yes (reached arc.head) ∷ []) (yes (reached arc.head)) (Contains-head (yes (reached arc.head)) []))) (leads passes t)
         | inr f ↦ any_from (part_value a) (step_parts reached class arc) (no (reached arc.tail)) (Contains-head (no (reached arc.tail)) rest) (ap not f)
       ]
       | inr c ↦ any_from (part_value a) (step_parts reached class arc) (denied c.0)
@@ -97,7 +98,8 @@ kept_off_from_model a chosen nodes links edits q reached sound g h class l comes
     let b = from_map bare (filter (is_open chosen class) (counted q)) arc m in
     let f = from_filter (is_open chosen class) (counted q) b.0 b.1 in
     let n = from_filter (is_counted q.demand) q.arcs b.0 f.0 in
-    let t : IsTrue (parts_value a (step_parts (reached class) class b.0)) = one (step_parts (reached class) class b.0) (Contains-tail enters (step_parts (reached class) class b.0) (steps ++ leaves ∷ [])
+    let t : IsTrue (parts_value a (step_parts (reached class) class b.0)) =
+    one (step_parts (reached class) class b.0) (Contains-tail enters (step_parts (reached class) class b.0) (steps ++ leaves ∷ [])
     (Contains-append_left steps (leaves ∷ []) (step_parts (reached class) class b.0) (Contains-map (step_parts (reached class) class) (counted q) b.0 f.0))) in
     subst (λ (x : Arc). a (reached class x.head) ≡ true) b.2
     (step_leads a chosen edits class (reached class) b.0 g (All-contains (HasEdits edits) q.arcs b.0 sound.arcs n.0) f.1 t (subst (λ (x : Arc). a (reached class x.tail) ≡ true) (sym b.2) from)) in
@@ -112,7 +114,8 @@ kept_off_from_model a chosen nodes links edits q reached sound g h class l comes
 unfoldable pub comes_to : (ℕ → Bool) → Question → ℕ → ℕ → Bool
 comes_to chosen q class node = holds chosen (ends_of q class).enter && list_any (λ (n : ℕ). n == node) (reached_are_listed (open_arcs chosen q class) q.source).0
 
-pub comes_from : (chosen : ℕ → Bool) (q : Question) (class node : ℕ) → comes_to chosen q class node ≡ true → (holds chosen (ends_of q class).enter ≡ true) × Leads (open_arcs chosen q class) q.source node
+pub comes_from : (chosen : ℕ → Bool) (q : Question) (class node : ℕ) → comes_to chosen q class node ≡ true →
+    (holds chosen (ends_of q class).enter ≡ true) × Leads (open_arcs chosen q class) q.source node
 unfolding comes_to
 comes_from chosen q class node e =
     let listed = reached_are_listed (open_arcs chosen q class) q.source in
@@ -127,7 +130,7 @@ comes_by chosen q class node enter leads =
     and_from (holds chosen (ends_of q class).enter) (list_any (λ (n : ℕ). n == node) listed.0) enter
     (any_from (λ (n : ℕ). n == node) listed.0 node ((listed.1 node).0 leads) (eq-eqb node node refl))
 
--- where packets are kept off, the nodes to which they come are a model
+-- if packets are kept off, the nodes to which they come are a model
 pub model_from_kept_off : (a chosen : ℕ → Bool) (nodes links edits : ℕ) (q : Question) (reached : ℕ → ℕ → ℕ) → IsSound nodes links edits q → Agrees a chosen edits →
     ((class node : ℕ) → class < length q.classes → node < nodes → a (reached class node) ≡ comes_to chosen q class node) →
     IsKeptOff chosen q → Fulfils a (kept_off_parts q reached)
@@ -159,6 +162,9 @@ model_from_kept_off a chosen nodes links edits q reached sound g is off =
     let joins : Joins nodes (bare arc) = All-contains (Joins nodes) (map bare q.arcs) (bare arc) sound.graph.joined (Contains-map bare q.arcs arc n.0) in
     step_true a chosen edits class (reached class) arc g (All-contains (HasEdits edits) q.arcs arc sound.arcs n.0) (λ passes t.
     let c = comes_from chosen q class arc.tail (sym (is class arc.tail l joins.tail_node) ∙ t) in
-    is class arc.head l joins.head_node ∙ comes_by chosen q class arc.head c.0
-    (c.1.0 ++ bare arc ∷ [], Path-snoc (open_arcs chosen q class) q.source c.1.0 (bare arc) c.1.1 (Contains-map bare (filter (is_open chosen class) (counted q)) arc (Contains-filter (is_open chosen class) (counted q) arc m passes))))))
+    is class arc.head l joins.head_node ∙ comes_by chosen q class arc.head c.0 (
+      c.1.0 ++ bare arc ∷ [],
+      Path-snoc (open_arcs chosen q class) q.source c.1.0 (bare arc) c.1.1
+          (Contains-map bare (filter (is_open chosen class) (counted q)) arc (Contains-filter (is_open chosen class) (counted q) arc m passes)),
+    ))))
     (Fulfils-cons a leaves [] last (Fulfils-none a))))

@@ -1,5 +1,6 @@
--- What the parts of a clause say, and that the written clause says the same.
-use Rattle.std.proofs.Common.{◌≡◌, ℕ, ◌+◌, ◌*◌, ◌/◌, ◌%◌, ◌<◌, Bool, true, false, not, cond, ◌||◌, IsTrue, List, [], ◌∷◌, ◌++◌, map, All, Contains, inl, inr, ◌⊎◌, refl, sym, ap, ◌∙◌, subst, arith, Some, None, Option, filter_map, fold}
+-- The parts of a clause, and that the written clause means the same.
+use Rattle.std.proofs.Common.{◌≡◌, ℕ, ◌+◌, ◌*◌, ◌/◌, ◌%◌, ◌<◌, Bool, true, false, not, cond, ◌||◌, IsTrue, List, [], ◌∷◌}
+use Rattle.std.proofs.Common.{◌++◌, map, All, Contains, inl, inr, ◌⊎◌, refl, sym, ap, ◌∙◌, subst, arith, Some, None, Option, filter_map, fold}
 use Rattle.std.specs.Prelude.{◌==◌, if◌then◌else◌}
 use Rattle.std.specs.List.{list_any, list_all, cons_option}
 use Rattle.std.proofs.lemmas.Bool.{cases_Bool, eq-eqb, eqb-true, ne_eqb, or_cases, or_left, or_right, and_parts, and_from, false≢true, both_ways}
@@ -46,7 +47,7 @@ all_to f (y ∷ xs) x e m =
       | inr later ↦ all_to f xs x both.1 later
     ]
 
--- some item fails, where not all pass
+-- some item fails, if not all pass
 pub all_or_some : {X : Type 0} (f : X → Bool) (xs : List X) → (list_all f xs ≡ true) ⊎ ((x : X) × Contains xs x × (f x ≡ false))
 all_or_some f [] = inl refl
 all_or_some f (y ∷ xs) =
@@ -78,7 +79,7 @@ denied_is a chosen edits Never g o = refl
 denied_is a chosen edits (If e) g o = ap not (g e o)
 denied_is a chosen edits (Unless e) g o = g e o ∙ twice (chosen e)
 
--- a literal is worth what its part is
+-- a literal has the value of its part
 pub literal_value : (a : ℕ → Bool) (v : ℕ) (p : Bool) → value a (literal v p) ≡ part_value a (Literal v p)
 literal_value a v true =
     let half : (2 * v) / 2 ≡ v = omega arith in
@@ -120,7 +121,7 @@ fold_value a front (l ∷ lits) =
     ∙ ap (λ (b : Bool). b || clause_value a lits) (with_literal_value a front l (list_any (λ (x : Lit). x.code == l.code) front) refl)
     ∙ or_assoc (clause_value a front) (value a l) (clause_value a lits)
 
--- to write each literal once changes nothing
+-- writing each literal once changes nothing
 pub distinct_value : (a : ℕ → Bool) (lits : List Lit) → clause_value a (distinct lits) ≡ clause_value a lits
 distinct_value a lits = fold_value a [] lits
 
@@ -136,7 +137,7 @@ fixed_value : (a : ℕ → Bool) (part : Part) → is_fixed_true part ≡ true �
 fixed_value a (Fixed b) e = e
 fixed_value a (Literal v p) e = absurd (false≢true e)
 
--- what is written where the test comes out so
+-- what is written for this result of the test
 abbrev written_if : Bool → List Part → Option (List Lit)
 written_if b parts = if b then None else Some (distinct (filter_map literal_of parts))
 
@@ -146,14 +147,14 @@ left_out a parts e =
     let r = any_to is_fixed_true parts e in
     any_from (part_value a) parts r.0 r.1 (fixed_value a r.0 r.2)
 
--- a clause that is written says what its parts say
+-- a clause that is written has the value of its parts
 pub written_value : (a : ℕ → Bool) (parts : List Part) → list_any is_fixed_true parts ≡ false → clause_value a (distinct (filter_map literal_of parts)) ≡ parts_value a parts
 written_value a parts e = distinct_value a (filter_map literal_of parts) ∙ literals_value a parts e
 
 abbrev clause_of : List Lit → Clause
 clause_of lits = record { lits = lits }
 
--- the clauses of the rest, with the one before it if it is written
+-- the clauses of the rest, after the first one if that is written
 abbrev onto_clauses : Option (List Lit) → List (List Lit) → List Clause
 onto_clauses o rest = map clause_of (cons_option o rest)
 
@@ -161,7 +162,8 @@ first_to : (a : ℕ → Bool) (parts : List Part) (rest : List (List Lit)) (b : 
     IsTrue (parts_value a parts) → All (λ (c : Clause). IsTrue (clause_value a c.lits)) (map clause_of rest) →
     All (λ (c : Clause). IsTrue (clause_value a c.lits)) (onto_clauses (written_if b parts) rest)
 first_to a parts rest true e t all = all
-first_to a parts rest false e t all = All-cons (λ (c : Clause). IsTrue (clause_value a c.lits)) (clause_of (distinct (filter_map literal_of parts))) (map clause_of rest) (written_value a parts e ∙ t) all
+first_to a parts rest false e t all = All-cons (λ (c : Clause). IsTrue (clause_value a c.lits)) (clause_of (distinct (filter_map literal_of parts))) (map clause_of rest)
+    (written_value a parts e ∙ t) all
 
 first_from : (a : ℕ → Bool) (parts : List Part) (rest : List (List Lit)) (b : Bool) → list_any is_fixed_true parts ≡ b →
     All (λ (c : Clause). IsTrue (clause_value a c.lits)) (onto_clauses (written_if b parts) rest) →
@@ -172,7 +174,7 @@ first_from a parts rest false e all = (
   All-tail (λ (c : Clause). IsTrue (clause_value a c.lits)) (clause_of (distinct (filter_map literal_of parts))) (map clause_of rest) all,
 )
 
--- an assignment makes the written clauses true exactly where it makes true what they were written from
+-- an assignment makes the written clauses true exactly if it makes the clauses true that they were written from
 pub written_from_fulfils : (a : ℕ → Bool) (clauses : List (List Part)) → Fulfils a clauses → All (λ (c : Clause). IsTrue (clause_value a c.lits)) (written_clauses clauses)
 written_from_fulfils a [] h = All-nil (λ (c : Clause). IsTrue (clause_value a c.lits))
 written_from_fulfils a (parts ∷ clauses) h =

@@ -1,4 +1,4 @@
--- Numbers below a bound, pairs of items, and what clauses over them say.
+-- Numbers below a bound, pairs of items, and clauses over them.
 use Rattle.std.specs.List.{flat_map}
 use Rattle.std.proofs.Common.{◌≡◌, ℕ, zero, suc, ◌<◌, Bool, true, false, not, ◌||◌, IsTrue, List, [], ◌∷◌, ◌++◌, map, AllPairs, Contains, inl, inr, ◌⊎◌, refl, sym, ap, ◌∙◌, subst, arith}
 use Rattle.std.proofs.lemmas.Bool.{cases_lt, false≢true}
@@ -28,7 +28,7 @@ below (suc n) k m =
       ]
     ]
 
--- both of a pair are items, and related as all pairs are
+-- both items of a pair are in the list, and related as all pairs are
 pub record InPairs {X : Type 0} (R : X → X → Type 0) (xs : List X) (x y : X) : Type 0 where
   pub first : Contains xs x
   pub second : Contains xs y
@@ -72,7 +72,7 @@ in_pairs {X} (z ∷ xs) x y a b ne =
       ]
     ]
 
--- clauses of two lists, and of one of them
+-- clauses of two lists, and those of one of them
 pub Fulfils-append : (a : ℕ → Bool) (xs ys : List (List Part)) → Fulfils a xs → Fulfils a ys → Fulfils a (xs ++ ys)
 Fulfils-append a xs ys p q parts m = elim (Contains-append_cases xs ys parts m) [ inl l ↦ p parts l | inr r ↦ q parts r ]
 
@@ -116,7 +116,8 @@ both_not : (a : ℕ → Bool) (x y : ℕ) → a x ≡ true → a y ≡ true → 
 both_not a x y s t h = elim (one_of (not (a x)) (not (a y)) h) [ inl n ↦ not_true (a x) s n | inr n ↦ not_true (a y) t n ]
 
 -- of two different items not both variables are true
-pub excluded : {X : Type 0} (a : ℕ → Bool) (v : X → ℕ) (items : List X) (x y : X) → Fulfils a (exclusions v items) → Contains items x → Contains items y → (x ≡ y → ⊥) → a (v x) ≡ true → a (v y) ≡ true → ⊥
+pub excluded : {X : Type 0} (a : ℕ → Bool) (v : X → ℕ) (items : List X) (x y : X) → Fulfils a (exclusions v items) → Contains items x → Contains items y →
+    (x ≡ y → ⊥) → a (v x) ≡ true → a (v y) ≡ true → ⊥
 excluded {X} a v items x y h m n ne s t =
     let clause = λ (pair : X × X). no (v pair.0) ∷ no (v pair.1) ∷ [] in
     elim (in_pairs items x y m n ne) [
@@ -129,7 +130,7 @@ neither false y h = refl
 neither true false h = refl
 neither true true h = absurd (h refl refl)
 
--- where of no pair of related items both variables are true
+-- the clauses of exclusion hold if no two related items both have a true variable
 pub excludes : {X : Type 0} (R : X → X → Type 0) (a : ℕ → Bool) (v : X → ℕ) (items : List X) → AllPairs R items →
     ((x y : X) → Contains items x → Contains items y → R x y → a (v x) ≡ true → a (v y) ≡ true → ⊥) → Fulfils a (exclusions v items)
 excludes {X} R a v items related h =

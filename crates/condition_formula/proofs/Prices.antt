@@ -1,4 +1,4 @@
--- The clauses that count: in a model a variable is true where the price is above its number, and such a model there is.
+-- The clauses of the price counter: in a model a variable is true if the price is above its number, and there is such a model.
 use Rattle.std.proofs.Common.{◌≡◌, ℕ, zero, suc, ◌+◌, ◌-◌, ◌<◌, ◌≤◌, Bool, true, false, not, cond, ◌||◌, List, [], ◌∷◌, ◌++◌, length, inl, inr, refl, sym, ap, ◌∙◌, subst, arith}
 use Rattle.std.specs.Prelude.{◌==◌, nat_lt, if◌then◌else◌, slice_index_or}
 use Rattle.std.specs.List.{flat_map}
@@ -13,7 +13,7 @@ use Rattle.condition_formula.specs.Prices.{kept_parts, added_parts, price_parts}
 use Rattle.condition_formula.proofs.Parts.{Agrees}
 use Rattle.condition_formula.proofs.Places.{in_upto, below, one_of, not_true, Fulfils-append, Fulfils-left, Fulfils-right, Fulfils-cons, Fulfils-none, Fulfils-flat_map, Fulfils-piece}
 
--- one edit more
+-- the price with one more edit
 pub price_more : (chosen : ℕ → Bool) (weights : List ℕ) (edit : ℕ) → price_of_first chosen weights (suc edit) ≡ price_of_first chosen weights edit + share chosen weights edit
 price_more chosen weights edit = sum_by-append (share chosen weights) (upto edit) (edit ∷ []) ∙ omega arith
 
@@ -36,7 +36,7 @@ pub arms : (a : ℕ → Bool) (b : Bool) (xs ys : List (List Part)) → (b ≡ t
 arms a true xs ys t f = t refl
 arms a false xs ys t f = f refl
 
--- a clause of one implication, and of one from two
+-- a clause of one implication, and one of an implication from two
 implied : (x y : Bool) → (not x || (y || false)) ≡ true → x ≡ true → y ≡ true
 implied x y h t = elim (one_of (not x) y h) [ inl n ↦ absurd (not_true x t n) | inr r ↦ r ]
 
@@ -60,7 +60,8 @@ kept_says a above edit number h l t =
     let parts = no (above (edit - 1) number) ∷ yes (above edit number) ∷ [] in
     implied (a (above (edit - 1) number)) (a (above edit number)) (else_arm a (edit == 0) [] (parts ∷ []) (ne_eqb edit 0 (λ e. omega arith)) h parts (Contains-head parts [])) t
 
-added_low : (a : ℕ → Bool) (above : ℕ → ℕ → ℕ) (weight edit number : ℕ) → Fulfils a (added_parts above weight edit number) → number < weight → a (edit_variable edit) ≡ true → a (above edit number) ≡ true
+added_low : (a : ℕ → Bool) (above : ℕ → ℕ → ℕ) (weight edit number : ℕ) → Fulfils a (added_parts above weight edit number) → number < weight →
+    a (edit_variable edit) ≡ true → a (above edit number) ≡ true
 added_low a above weight edit number h l t =
     let parts = no (edit_variable edit) ∷ yes (above edit number) ∷ [] in
     let more = no (edit_variable edit) ∷ no (above (edit - 1) (number - weight)) ∷ yes (above edit number) ∷ [] in
@@ -77,7 +78,8 @@ added_high a above weight edit number h l pos t u =
     (else_arm a (nat_lt number weight) (parts ∷ []) (if edit == 0 then [] else more ∷ []) (le-ltb number weight l) h) more (Contains-head more [])) t u
 
 -- the clauses of an edit and a number
-cell_kept : (a : ℕ → Bool) (weights : List ℕ) (bound : ℕ) (above : ℕ → ℕ → ℕ) → Fulfils a (price_parts weights bound above) → (edit number : ℕ) → edit < length weights → number ≤ bound → Fulfils a (kept_parts above edit number)
+cell_kept : (a : ℕ → Bool) (weights : List ℕ) (bound : ℕ) (above : ℕ → ℕ → ℕ) → Fulfils a (price_parts weights bound above) → (edit number : ℕ) →
+    edit < length weights → number ≤ bound → Fulfils a (kept_parts above edit number)
 cell_kept a weights bound above h edit number l m =
     let added = λ (e : ℕ) (n : ℕ). added_parts above (slice_index_or weights e 0) e n in
     let row : Fulfils a (flat_map (λ (n : ℕ). kept_parts above edit n ++ added edit n) (upto (bound + 1))) =
@@ -85,7 +87,8 @@ cell_kept a weights bound above h edit number l m =
     Fulfils-left a (kept_parts above edit number) (added edit number)
     (Fulfils-piece a (λ (n : ℕ). kept_parts above edit n ++ added edit n) (upto (bound + 1)) number row (in_upto (bound + 1) number (omega arith)))
 
-cell_added : (a : ℕ → Bool) (weights : List ℕ) (bound : ℕ) (above : ℕ → ℕ → ℕ) → Fulfils a (price_parts weights bound above) → (edit number : ℕ) → edit < length weights → number ≤ bound → Fulfils a (added_parts above (slice_index_or weights edit 0) edit number)
+cell_added : (a : ℕ → Bool) (weights : List ℕ) (bound : ℕ) (above : ℕ → ℕ → ℕ) → Fulfils a (price_parts weights bound above) → (edit number : ℕ) →
+    edit < length weights → number ≤ bound → Fulfils a (added_parts above (slice_index_or weights edit 0) edit number)
 cell_added a weights bound above h edit number l m =
     let added = λ (e : ℕ) (n : ℕ). added_parts above (slice_index_or weights e 0) e n in
     let row : Fulfils a (flat_map (λ (n : ℕ). kept_parts above edit n ++ added edit n) (upto (bound + 1))) =
@@ -109,7 +112,8 @@ counted_in_model a chosen weights bound above g h (suc edit) number l m p =
       | inl t ↦ elim (cases_lt number (slice_index_or weights (suc edit) 0)) [
         | inl low ↦ added_low a above (slice_index_or weights (suc edit) 0) (suc edit) number (cell_added a weights bound above h (suc edit) number l m) low (g (suc edit) l ∙ t)
         | inr high ↦
-            let rest : number - slice_index_or weights (suc edit) 0 < price_of_first chosen weights (suc edit) = omega (arith, price_more chosen weights (suc edit), share_chosen chosen weights (suc edit) t) in
+            let rest : number - slice_index_or weights (suc edit) 0 < price_of_first chosen weights (suc edit) =
+            omega (arith, price_more chosen weights (suc edit), share_chosen chosen weights (suc edit) t) in
             added_high a above (slice_index_or weights (suc edit) 0) (suc edit) number (cell_added a weights bound above h (suc edit) number l m) high (omega arith) (g (suc edit) l ∙ t)
             (subst (λ (e : ℕ). a (above e (number - slice_index_or weights (suc edit) 0)) ≡ true) (sym back)
             (counted_in_model a chosen weights bound above g h edit (number - slice_index_or weights (suc edit) 0) (omega arith) (omega arith) rest))
@@ -124,7 +128,7 @@ counted_in_model a chosen weights bound above g h (suc edit) number l m p =
 abbrev pub costs_more : (ℕ → Bool) → List ℕ → ℕ → ℕ → Bool
 costs_more chosen weights edit number = nat_lt number (price_of_first chosen weights (suc edit))
 
--- where each variable says just that, the clauses are true
+-- if each variable is true exactly if the chosen edits cost more than its number, the clauses are true
 pub model_from_prices : (a chosen : ℕ → Bool) (weights : List ℕ) (bound : ℕ) (above : ℕ → ℕ → ℕ) → Agrees a chosen (length weights) →
     ((edit number : ℕ) → edit < length weights → number ≤ bound → a (above edit number) ≡ costs_more chosen weights edit number) → Fulfils a (price_parts weights bound above)
 model_from_prices a chosen weights bound above g is =
@@ -144,7 +148,8 @@ model_from_prices a chosen weights bound above g is =
     (arms a (edit == 0) [] ((no (above (edit - 1) number) ∷ yes (above edit number) ∷ []) ∷ []) (λ z. Fulfils-none a) (λ f.
     Fulfils-cons a (no (above (edit - 1) number) ∷ yes (above edit number) ∷ []) []
     (implies (a (above (edit - 1) number)) (a (above edit number)) (λ t. let p : number < price_of_first chosen weights edit = before number m f t in now (omega arith))) (Fulfils-none a)))
-    (arms a (nat_lt number weight) ((no (edit_variable edit) ∷ yes (above edit number) ∷ []) ∷ []) (if edit == 0 then [] else (no (edit_variable edit) ∷ no (above (edit - 1) (number - weight)) ∷ yes (above edit number) ∷ []) ∷ [])
+    (arms a (nat_lt number weight) ((no (edit_variable edit) ∷ yes (above edit number) ∷ []) ∷ [])
+    (if edit == 0 then [] else (no (edit_variable edit) ∷ no (above (edit - 1) (number - weight)) ∷ yes (above edit number) ∷ []) ∷ [])
     (λ low. Fulfils-cons a (no (edit_variable edit) ∷ yes (above edit number) ∷ []) []
     (implies (a (edit_variable edit)) (a (above edit number)) (λ t.
     let s : share chosen weights edit ≡ weight = share_chosen chosen weights edit (sym (g edit l) ∙ t) in

@@ -11,7 +11,7 @@ use Rattle.condition_formula.specs.Reaching.{arc_at}
 use Rattle.condition_formula.specs.Writing.{number_of, picks, with_place}
 use Rattle.condition_formula.proofs.Distinct.{length-upto, get_or-upto}
 
--- of the first places those that are meant, and the rows of them
+-- the places among the first that are picked for a number, as a row, and all such rows
 abbrev pub first_row : Question → Pick → ℕ → ℕ → Row
 first_row q pick most number = record { places = filter (λ (place : ℕ). picks pick number (arc_at q place)) (upto most) }
 
@@ -60,14 +60,16 @@ module _ (q : Question) (pick : Pick) (count place : ℕ) where
   all_placed : placed ≡ first_rows q pick count (place + 1)
   all_placed =
       let rows = first_rows q pick count place in
-      let long : length placed ≡ count = length-set rows (number_of pick (arc_at q place)) (row ((get_or rows (number_of pick (arc_at q place)) none).places ++ place ∷ [])) ∙ told_length (first_row q pick place) count in
+      let long : length placed ≡ count = length-set rows (number_of pick (arc_at q place)) (row ((get_or rows (number_of pick (arc_at q place)) none).places ++ place ∷ []))
+      ∙ told_length (first_row q pick place) count in
       ext_get_or none placed (first_rows q pick count (place + 1)) (long ∙ sym (told_length (first_row q pick (place + 1)) count)) (λ k l.
       let within : k < count = omega (arith, l, long) in
       (elim (eqb_tells (number_of pick (arc_at q place)) k) [ inl same ↦ here k within same.0 same.1 | inr other ↦ elsewhere k within other.0 other.1 ]) ∙
       sym (told_at (first_row q pick (place + 1)) count k none within))
 
--- one place more
-pub rows-more : (q : Question) (pick : Pick) (count place number : ℕ) (now next : List Row) → number ≡ number_of pick (arc_at q place) → now ≡ first_rows q pick count place → next ≡ with_place now number place →
+-- the rows with one more place
+pub rows-more : (q : Question) (pick : Pick) (count place number : ℕ) (now next : List Row) → number ≡ number_of pick (arc_at q place) →
+    now ≡ first_rows q pick count place → next ≡ with_place now number place →
     next ≡ first_rows q pick count (place + 1)
 rows-more q pick count place number now next is was put =
     put ∙ ap (λ (n : ℕ). with_place now n place) is ∙ ap (λ (rows : List Row). with_place rows (number_of pick (arc_at q place)) place) was ∙ all_placed q pick count place

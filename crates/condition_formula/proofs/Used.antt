@@ -1,4 +1,4 @@
--- The arcs of a question at their places, and what the clauses of a family say of the places that it uses.
+-- The arcs of a question at their places, and what the clauses of a family mean for the places that it uses.
 use Rattle.std.proofs.Common.{◌≡◌, ℕ, zero, suc, ◌<◌, Bool, true, not, IsTrue, List, [], ◌∷◌, length, get_or, map, filter, AllPairs, Contains, inl, inr, refl, sym, ap, ◌∙◌, subst, arith}
 use Rattle.std.proofs.lemmas.Bool.{cases_order, or_cases as or_split}
 use Rattle.std.proofs.lemmas.List.Elements.{All-contains, Contains-get_or}
@@ -31,7 +31,7 @@ places-rising q test = AllPairs-filter (λ (i j : ℕ). i < j) (λ (p : ℕ). te
 pub is_arc : (q : Question) (place : ℕ) → place < length q.arcs → Contains q.arcs (arc_at q place)
 is_arc q place l = Contains-get_or q.arcs place no_arc l
 
--- what stands at a place does not depend on what would stand for nothing
+-- what is at a place does not depend on the default
 get_or_any : {X : Type 0} (xs : List X) (k : ℕ) (d e : X) → k < length xs → get_or xs k d ≡ get_or xs k e
 get_or_any [] k d e l = absurd (omega arith)
 get_or_any (x ∷ xs) zero d e l = refl
@@ -45,7 +45,7 @@ pub joins_at : (nodes links edits : ℕ) (q : Question) → IsSound nodes links 
 joins_at nodes links edits q sound place l =
     All-contains (Joins nodes) (map bare q.arcs) (bare (arc_at q place)) sound.graph.joined (Contains-map bare q.arcs (arc_at q place) (is_arc q place l))
 
--- two places with one bare arc are the same
+-- two places with one bare arc are equal
 earlier : (nodes links edits : ℕ) (q : Question) → IsSound nodes links edits q → (i j : ℕ) → i < j → j < length q.arcs → bare (arc_at q i) ≡ bare (arc_at q j) → ⊥
 earlier nodes links edits q sound i j l m e =
     let share : MayShare (bare (arc_at q i)) (bare (arc_at q j)) = AllPairs-unmap MayShare bare q.arcs sound.graph.opposite i j no_arc l m in
@@ -73,12 +73,13 @@ routed-graph nodes links edits chosen q sound = record {
       (AllPairs-filter (λ (x y : ConditionArc). MayShare (bare x) (bare y)) (is_routed chosen) q.arcs (AllPairs-unmap MayShare bare q.arcs sound.graph.opposite));
 }
 
--- a routed arc at its place is one of them
+-- a routed arc at its place is one of the routed arcs
 pub routed_at : (chosen : ℕ → Bool) (q : Question) (place : ℕ) → place < length q.arcs → is_routed chosen (arc_at q place) ≡ true → Contains (routed_arcs chosen q) (bare (arc_at q place))
 routed_at chosen q place l t = Contains-map bare (filter (is_routed chosen) q.arcs) (arc_at q place) (Contains-filter (is_routed chosen) q.arcs (arc_at q place) (is_arc q place l) t)
 
--- and each of them has a place
-pub from_routed : (chosen : ℕ → Bool) (q : Question) (arc : Arc) → Contains (routed_arcs chosen q) arc → (place : ℕ) × (place < length q.arcs) × (bare (arc_at q place) ≡ arc) × (is_routed chosen (arc_at q place) ≡ true)
+-- each routed arc has a place
+pub from_routed : (chosen : ℕ → Bool) (q : Question) (arc : Arc) → Contains (routed_arcs chosen q) arc →
+    (place : ℕ) × (place < length q.arcs) × (bare (arc_at q place) ≡ arc) × (is_routed chosen (arc_at q place) ≡ true)
 from_routed chosen q arc m =
     let b = from_map bare (filter (is_routed chosen) q.arcs) arc m in
     let f = from_filter (is_routed chosen) q.arcs b.0 b.1 in

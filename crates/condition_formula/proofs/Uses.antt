@@ -15,14 +15,15 @@ use Rattle.condition_formula.specs.Lists.{upto, pairs}
 use Rattle.condition_formula.specs.Conditions.{IsOfEdits, HasEdits, IsSound, lists_of, conditions_of, ends_of, counted, is_counted, bare}
 use Rattle.condition_formula.specs.Clauses.{yes, no, affirmed, denied, edit_variable}
 use Rattle.condition_formula.specs.Sides.{step_parts, side_parts, kept_off_parts}
-use Rattle.condition_formula.specs.Reaching.{arc_at, places, out_of, into, exclusions, implications, routed_parts, node_parts, once_parts, between, family_parts, over_link, ends_parts, clear_parts, paths_parts, reached_parts}
+use Rattle.condition_formula.specs.Reaching.{arc_at, places, out_of, into, exclusions, implications, routed_parts, node_parts}
+use Rattle.condition_formula.specs.Reaching.{once_parts, between, family_parts, over_link, ends_parts, clear_parts, paths_parts, reached_parts}
 use Rattle.condition_formula.specs.Prices.{kept_parts, added_parts, price_parts}
 use Rattle.condition_formula.proofs.Places.{below, from_pairs, InPairs}
 use Rattle.condition_formula.proofs.KeptOff.{of_conditions}
 use Rattle.condition_formula.proofs.Used.{from_place, is_arc}
 use Rattle.condition_formula.proofs.Families.{from_item}
 
--- each item of the list is such
+-- each item of the list has the property
 abbrev pub Each : {X : Type 0} → (X → Type 0) → List X → Type 0
 Each {X} Q xs = (x : X) → Contains xs x → Q x
 
@@ -45,12 +46,12 @@ Each-arms : {X : Type 0} (Q : X → Type 0) (b : Bool) (xs ys : List X) → (b �
 Each-arms Q true xs ys t f = t refl
 Each-arms Q false xs ys t f = f refl
 
--- the variable of the part, if it has one, is such
+-- the variable of the part, if it has one, has the property
 abbrev pub Uses : (ℕ → Type 0) → Part → Type 0
 Uses P (Fixed truth) = Unit {0}
 Uses P (Literal v positive) = P v
 
--- each variable of the clauses is such
+-- each variable of the clauses has the property
 abbrev pub AllUse : (ℕ → Type 0) → List (List Part) → Type 0
 AllUse P clauses = Each (Each (Uses P)) clauses
 
@@ -105,8 +106,10 @@ module _ (P : ℕ → Type 0) (nodes links edits : ℕ) (q : Question) (sound : 
       Each-flat_map (Each (Uses P)) (ends_parts q) (upto (length q.classes)) (λ class m.
       let enter = (ends_of q class).enter in
       let leave = (ends_of q class).leave in
-      Each-cons (Each (Uses P)) (affirmed enter ∷ []) ((affirmed leave ∷ []) ∷ []) (Each-cons (Uses P) (affirmed enter) [] (affirmed-uses P edits enter of_edit (sound.ends class).0) (Each-none (Uses P)))
-      (Each-cons (Each (Uses P)) (affirmed leave ∷ []) [] (Each-cons (Uses P) (affirmed leave) [] (affirmed-uses P edits leave of_edit (sound.ends class).1) (Each-none (Uses P))) (Each-none (Each (Uses P)))))
+      Each-cons (Each (Uses P)) (affirmed enter ∷ []) ((affirmed leave ∷ []) ∷ [])
+      (Each-cons (Uses P) (affirmed enter) [] (affirmed-uses P edits enter of_edit (sound.ends class).0) (Each-none (Uses P)))
+      (Each-cons (Each (Uses P)) (affirmed leave ∷ []) [] (Each-cons (Uses P) (affirmed leave) [] (affirmed-uses P edits leave of_edit (sound.ends class).1) (Each-none (Uses P)))
+      (Each-none (Each (Uses P)))))
 
   pub clear-uses : (class : ℕ) → AllUse P (flat_map (clear_parts class) q.arcs)
   clear-uses class =
@@ -124,7 +127,8 @@ exclusions-use {X} P v items h =
     let i : InPairs (λ (x y : X). Unit {0}) items p.0 p.1 = from_pairs (λ (x y : X). Unit {0}) items p (λ i j d l n. tt) m in
     Each-cons (Uses P) (no (v p.0)) (no (v p.1) ∷ []) (h p.0 i.first) (Each-cons (Uses P) (no (v p.1)) [] (h p.1 i.second) (Each-none (Uses P))))
 
-implications-use : (P : ℕ → Type 0) (used : ℕ → ℕ) (ones others : List ℕ) → ((p : ℕ) → Contains ones p → P (used p)) → ((p : ℕ) → Contains others p → P (used p)) → AllUse P (implications used ones others)
+implications-use : (P : ℕ → Type 0) (used : ℕ → ℕ) (ones others : List ℕ) → ((p : ℕ) → Contains ones p → P (used p)) →
+    ((p : ℕ) → Contains others p → P (used p)) → AllUse P (implications used ones others)
 implications-use P used ones others h k =
     Each-map (Each (Uses P)) (λ (p : ℕ). no (used p) ∷ map (λ (o : ℕ). yes (used o)) others) ones (λ p m.
     Each-cons (Uses P) (no (used p)) (map (λ (o : ℕ). yes (used o)) others) (h p m) (Each-map (Uses P) (λ (o : ℕ). yes (used o)) others k))
@@ -151,7 +155,9 @@ module _ (P : ℕ → Type 0) (nodes links edits : ℕ) (q : Question) (sound : 
       let l : p < length q.arcs = below (length q.arcs) p m in
       Each-map (Each (Uses P)) (λ (c : Condition). no (used p) ∷ affirmed c ∷ []) (arc_at q p).routing (λ c n.
       Each-cons (Uses P) (no (used p)) (affirmed c ∷ []) (of_place p l)
-      (Each-cons (Uses P) (affirmed c) [] (affirmed-uses P edits c of_edit (All-contains (IsOfEdits edits) (arc_at q p).routing c (All-contains (HasEdits edits) q.arcs (arc_at q p) sound.arcs (is_arc q p l)).routing n)) (Each-none (Uses P))))))
+      (Each-cons (Uses P) (affirmed c) []
+      (affirmed-uses P edits c of_edit
+      (All-contains (IsOfEdits edits) (arc_at q p).routing c (All-contains (HasEdits edits) q.arcs (arc_at q p) sound.arcs (is_arc q p l)).routing n)) (Each-none (Uses P))))))
       (Each-cons (Each (Uses P)) start (end ∷ []) (Each-map (Uses P) (λ (p : ℕ). yes (used p)) (out_of q q.source) (out_at q.source))
       (Each-cons (Each (Uses P)) end [] (Each-map (Uses P) (λ (p : ℕ). yes (used p)) (into q q.target) (in_at q.target)) (Each-none (Each (Uses P))))))
       (Each-map (Each (Uses P)) (λ (p : ℕ). no (used p) ∷ []) (into q q.source) (λ p m. single (used p) (in_at q.source p m))))
@@ -175,7 +181,8 @@ module _ (P : ℕ → Type 0) (nodes links edits : ℕ) (q : Question) (sound : 
       (Each-flat_map (Each (Uses P)) (λ (link : ℕ). exclusions (λ (item : ℕ × ℕ). used item.0 item.1) (over_link q many link)) (upto links) (λ link m.
       exclusions-use P (λ (item : ℕ × ℕ). used item.0 item.1) (over_link q many link) (λ x n. let i = from_item q many link x n in of_place x.0 x.1 i.0 i.1)))
 
-  pub reached-uses : (many : ℕ) (used : ℕ → ℕ → ℕ) → ((q.source == q.target) ≡ false → (family place : ℕ) → family < many → place < length q.arcs → P (used family place)) → AllUse P (reached_parts q nodes links many used)
+  pub reached-uses : (many : ℕ) (used : ℕ → ℕ → ℕ) →
+      ((q.source == q.target) ≡ false → (family place : ℕ) → family < many → place < length q.arcs → P (used family place)) → AllUse P (reached_parts q nodes links many used)
   reached-uses many used of_place =
       Each-append (Each (Uses P)) (flat_map (ends_parts q) (upto (length q.classes))) (if q.source == q.target then [] else paths_parts q nodes links many used)
       (ends-uses P nodes links edits q sound of_edit)
@@ -197,7 +204,8 @@ prices-use P weights bound above of_edit of_price =
     Each-append (Each (Uses P)) (kept_parts above e n) (added_parts above weight e n)
     (Each-arms (Each (Uses P)) (e == 0) [] (kept ∷ []) (λ t. Each-none (Each (Uses P))) (λ f.
     one kept (Each-cons (Uses P) (no (above (e - 1) n)) (yes (above e n) ∷ []) (of_price (e - 1) n (omega arith) (omega arith)) last)))
-    (Each-arms (Each (Uses P)) (nat_lt n weight) (low ∷ []) (if e == 0 then [] else high ∷ []) (λ t. one low (Each-cons (Uses P) (no (edit_variable e)) (yes (above e n) ∷ []) (of_edit e l) last)) (λ f.
+    (Each-arms (Each (Uses P)) (nat_lt n weight) (low ∷ []) (if e == 0 then [] else high ∷ [])
+    (λ t. one low (Each-cons (Uses P) (no (edit_variable e)) (yes (above e n) ∷ []) (of_edit e l) last)) (λ f.
     Each-arms (Each (Uses P)) (e == 0) [] (high ∷ []) (λ t. Each-none (Each (Uses P))) (λ g.
     one high (Each-cons (Uses P) (no (edit_variable e)) (no (above (e - 1) (n - weight)) ∷ yes (above e n) ∷ []) (of_edit e l)
     (Each-cons (Uses P) (no (above (e - 1) (n - weight))) (yes (above e n) ∷ []) (of_price (e - 1) (n - weight) (omega arith) (omega arith)) last)))))))

@@ -122,22 +122,25 @@ pub record Ways (arcs : List Arc) (s t many : ℕ) : Type 0 where
   pub own_links : (f : ℕ) → f < many → (x y : Arc) → Contains (way f) x → Contains (way f) y → x.link ≡ y.link → x ≡ y
   pub apart : (f g : ℕ) → f < g → g < many → (x y : Arc) → Contains (way f) x → Contains (way g) y → x.link ≡ y.link → ⊥
 
--- the way of a path, and none past the paths
+-- the way of the path of this number, and none beyond the paths
 way_by : (arcs : List Arc) (s t : ℕ) (paths : List (List Link)) → All (λ path. IsPath arcs s path t) paths → (f : ℕ) → (f < length paths) ⊎ (length paths ≤ f) → List Arc
 way_by arcs s t paths each f (inl l) = (each f [] l).way
 way_by arcs s t paths each f (inr past) = []
 
-by_leads : (arcs : List Arc) (s t : ℕ) (paths : List (List Link)) (each : All (λ path. IsPath arcs s path t) paths) (f : ℕ) → f < length paths → (r : (f < length paths) ⊎ (length paths ≤ f)) → Path arcs s (way_by arcs s t paths each f r) t
+by_leads : (arcs : List Arc) (s t : ℕ) (paths : List (List Link)) (each : All (λ path. IsPath arcs s path t) paths) (f : ℕ) → f < length paths →
+    (r : (f < length paths) ⊎ (length paths ≤ f)) → Path arcs s (way_by arcs s t paths each f r) t
 unfolding way_by
 by_leads arcs s t paths each f l (inl m) = (each f [] m).leads
 by_leads arcs s t paths each f l (inr past) = absurd (omega arith)
 
-by_once : (arcs : List Arc) (s t : ℕ) (paths : List (List Link)) (each : All (λ path. IsPath arcs s path t) paths) (f : ℕ) → f < length paths → (r : (f < length paths) ⊎ (length paths ≤ f)) → AreDistinct (nodes_of s (way_by arcs s t paths each f r))
+by_once : (arcs : List Arc) (s t : ℕ) (paths : List (List Link)) (each : All (λ path. IsPath arcs s path t) paths) (f : ℕ) → f < length paths →
+    (r : (f < length paths) ⊎ (length paths ≤ f)) → AreDistinct (nodes_of s (way_by arcs s t paths each f r))
 unfolding way_by
 by_once arcs s t paths each f l (inl m) = (each f [] m).once
 by_once arcs s t paths each f l (inr past) = absurd (omega arith)
 
-by_links : (arcs : List Arc) (s t : ℕ) (paths : List (List Link)) (each : All (λ path. IsPath arcs s path t) paths) (f : ℕ) → f < length paths → (r : (f < length paths) ⊎ (length paths ≤ f)) → links_of (way_by arcs s t paths each f r) ≡ get_or paths f []
+by_links : (arcs : List Arc) (s t : ℕ) (paths : List (List Link)) (each : All (λ path. IsPath arcs s path t) paths) (f : ℕ) → f < length paths →
+    (r : (f < length paths) ⊎ (length paths ≤ f)) → links_of (way_by arcs s t paths each f r) ≡ get_or paths f []
 unfolding way_by
 by_links arcs s t paths each f l (inl m) = (each f [] m).of_links
 by_links arcs s t paths each f l (inr past) = absurd (omega arith)

@@ -1,5 +1,6 @@
--- The literals of the formula are of its variables.
-use Rattle.std.proofs.Common.{◌≡◌, ℕ, zero, suc, ◌+◌, ◌-◌, ◌*◌, ◌<◌, ◌≤◌, ◌/◌, Bool, true, false, List, [], ◌∷◌, ◌++◌, length, map, All, Contains, inl, inr, ◌⊎◌, refl, sym, ap, subst, arith, Some, None, Option, sum_by, fold, filter_map}
+-- The literals of the formula are over its variables.
+use Rattle.std.proofs.Common.{◌≡◌, ℕ, zero, suc, ◌+◌, ◌-◌, ◌*◌, ◌<◌, ◌≤◌, ◌/◌, Bool, true, false, List, [], ◌∷◌, ◌++◌}
+use Rattle.std.proofs.Common.{length, map, All, Contains, inl, inr, ◌⊎◌, refl, sym, ap, subst, arith, Some, None, Option, sum_by, fold, filter_map}
 use Rattle.std.specs.Prelude.{◌==◌, if◌then◌else◌}
 use Rattle.std.specs.List.{list_any, cons_option}
 use Rattle.std.proofs.lemmas.Bool.{cond-false, false≢true}
@@ -25,7 +26,7 @@ use Rattle.condition_formula.proofs.Places.{below}
 use Rattle.condition_formula.proofs.Uses.{AllUse, kept_off-uses, reached-uses, prices-use}
 use Rattle.condition_formula.proofs.Joined.{in_table}
 
--- the variables of a question are those from its first on, so many as it has
+-- the variables of a question are consecutive, from its first on
 demand-uses : (P : ℕ → Type 0) (nodes links edits first : ℕ) (q : Question) (d : Demand) → IsSound nodes links edits q → ((edit : ℕ) → edit < edits → P (edit_variable edit)) →
     ((k : ℕ) → k < demand_size q nodes d → P (first + k)) → AllUse P (demand_parts q nodes links first d)
 demand-uses P nodes links edits first q Blocked sound of_edit own =
@@ -48,7 +49,7 @@ questions-use P nodes links edits first (q ∷ qs) sound of_edit own clause m =
       | inr rest ↦ questions-use P nodes links edits (first + size) qs (All-tail (IsSound nodes links edits) q qs sound) of_edit (λ v l k. own v (omega arith) (omega (arith, sum, k))) clause rest
     ]
 
--- one of so many variables
+-- the variable is one of the first `n`
 abbrev Within : ℕ → ℕ → Type 0
 Within vars v = (1 ≤ v) × (v ≤ vars)
 
@@ -116,7 +117,7 @@ clause_of lits = record { lits = lits }
 abbrev written_if : Bool → List Part → Option (List Lit)
 written_if b parts = if b then None else Some (distinct (filter_map literal_of parts))
 
--- a written clause comes from the parts of one
+-- a written clause comes from the parts of some clause
 onto-cases : (parts : List Part) (rest : List (List Lit)) (b : Bool) (c : Clause) → Contains (map clause_of (cons_option (written_if b parts) rest)) c →
     (clause_of (distinct (filter_map literal_of parts)) ≡ c) ⊎ Contains (map clause_of rest) c
 onto-cases parts rest true c m = inr m

@@ -12,11 +12,11 @@ use Rattle.condition_formula.specs.declared.condition.Condition.{Condition}
 use Rattle.condition_formula.specs.declared.condition.Condition.TheVariants.{Always, Never, If}
 use Rattle.condition_formula.specs.declared.condition.Condition.TheVariants.{Unless}
 
--- the variable itself
+-- the literal of the variable
 abbrev pub yes : ℕ → Part
 yes variable = Literal variable true
 
--- its negation
+-- the literal of the variable's negation
 abbrev pub no : ℕ → Part
 no variable = Literal variable false
 
@@ -24,14 +24,14 @@ no variable = Literal variable false
 abbrev pub edit_variable : ℕ → ℕ
 edit_variable edit = edit + 1
 
--- the condition holds
+-- the part that says that the condition holds
 abbrev pub affirmed : Condition → Part
 affirmed Always = Fixed true
 affirmed Never = Fixed false
 affirmed (If edit) = yes (edit_variable edit)
 affirmed (Unless edit) = no (edit_variable edit)
 
--- the condition does not hold
+-- the part that says that the condition does not hold
 abbrev pub denied : Condition → Part
 denied Always = Fixed false
 denied Never = Fixed true
@@ -44,7 +44,7 @@ part_value assignment (Fixed truth) = truth
 part_value assignment (Literal variable true) = assignment variable
 part_value assignment (Literal variable false) = not (assignment variable)
 
--- a clause is true where some part is
+-- the truth value of a clause: it is true if one of its parts is
 abbrev pub parts_value : (ℕ → Bool) → List Part → Bool
 parts_value assignment parts = list_any (part_value assignment) parts
 
@@ -53,7 +53,7 @@ abbrev pub Fulfils : (ℕ → Bool) → List (List Part) → Type 0
 Fulfils assignment clauses =
     (parts : List Part) → Contains clauses parts → IsTrue (parts_value assignment parts)
 
--- whether the part makes a clause true by itself
+-- whether the part makes a clause true whatever its variables are
 abbrev pub is_fixed_true : Part → Bool
 is_fixed_true (Fixed truth) = truth
 is_fixed_true (Literal variable positive) = false
@@ -71,12 +71,12 @@ with_literal lits lit = if list_any (λ l. l.code == lit.code) lits then lits el
 abbrev pub distinct : List Lit → List Lit
 distinct lits = fold with_literal [] lits
 
--- the literals of a clause, unless a part makes it true by itself
+-- the literals of a clause, or None if a part makes it true whatever its variables are
 abbrev pub written : List Part → Option (List Lit)
 written parts =
     if list_any is_fixed_true parts then None else Some (distinct (filter_map literal_of parts))
 
--- the clauses that have to be written
+-- the clauses that are written: those that no part makes true whatever their variables are
 abbrev pub written_clauses : List (List Part) → List Clause
 written_clauses clauses = map (λ lits. record { lits = lits }) (filter_map written clauses)
 

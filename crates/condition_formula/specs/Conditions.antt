@@ -30,7 +30,8 @@ IsOfEdits edits Never = Unit {0}
 IsOfEdits edits (If edit) = edit < edits
 IsOfEdits edits (Unless edit) = edit < edits
 
--- what the two packet lists of the arc say of the class
+-- the conditions under which the arc's two packet lists permit the class; always for a class
+-- without any
 abbrev pub lists_of : ConditionArc → ℕ → ArcLists
 lists_of arc class = slice_index_or arc.lists class (record { outbound = Always; inbound = Always })
 
@@ -39,7 +40,8 @@ abbrev pub conditions_of : ConditionArc → ℕ → List Condition
 conditions_of arc class =
     arc.routing ++ (lists_of arc class).outbound ∷ (lists_of arc class).inbound ∷ []
 
--- where the packets of the class enter and leave
+-- the conditions under which the packets of the class enter and leave; always for a class without
+-- any
 abbrev pub ends_of : Question → ℕ → ClassEnds
 ends_of q class = slice_index_or q.classes class (record { enter = Always; leave = Always })
 
@@ -51,7 +53,7 @@ is_routed chosen arc = list_all (holds chosen) arc.routing
 abbrev pub is_open : (ℕ → Bool) → ℕ → ConditionArc → Bool
 is_open chosen class arc = list_all (holds chosen) (conditions_of arc class)
 
--- whether the arc counts: where packets are to pass a waypoint, the arcs of waypoints do not
+-- whether the arc counts for the demand: for Through the arcs of waypoints do not
 abbrev pub is_counted : Demand → ConditionArc → Bool
 is_counted Blocked arc = true
 is_counted Through arc = not arc.waypoint
@@ -79,7 +81,7 @@ pub record Comes (chosen : ℕ → Bool) (q : Question) (class : ℕ) : Type 0 w
   pub leave : IsTrue (holds chosen (ends_of q class).leave)
   pub leads : Leads (open_arcs chosen q class) q.source q.target
 
--- no packets come
+-- no packets of any class come from the source to the target
 abbrev pub IsKeptOff : (ℕ → Bool) → Question → Type 0
 IsKeptOff chosen q = (class : ℕ) → class < length q.classes → Comes chosen q class → ⊥
 
@@ -93,8 +95,8 @@ pub record IsClearArc (chosen : ℕ → Bool) (class : ℕ) (arc : ConditionArc)
   pub outbound : IsTrue (holds chosen (lists_of arc class).outbound)
   pub inbound : IsTrue (holds chosen (lists_of arc class).inbound)
 
--- all packets enter and leave; and where the two nodes differ, every routed arc is clear, and
--- `many` paths share no link
+-- all packets enter and leave; and if the two nodes differ, every routed arc is clear, and `many`
+-- paths share no link
 pub record AreReached (chosen : ℕ → Bool) (q : Question) (many : ℕ) : Type 0 where
   pub ends : (class : ℕ) → class < length q.classes → PassesEnds chosen q class
   pub clear : q.source ≢ q.target → (class : ℕ) → class < length q.classes →
@@ -102,7 +104,7 @@ pub record AreReached (chosen : ℕ → Bool) (q : Question) (many : ℕ) : Type
       IsClearArc chosen class arc
   pub paths : q.source ≢ q.target → HavePaths (routed_arcs chosen q) q.source q.target many
 
--- the demand is met
+-- the demand is met where these edits are chosen
 abbrev pub MeetsDemand : (ℕ → Bool) → Question → Demand → Type 0
 MeetsDemand chosen q Blocked = IsKeptOff chosen q
 MeetsDemand chosen q Through = IsKeptOff chosen q

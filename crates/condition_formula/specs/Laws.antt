@@ -47,8 +47,8 @@ pub record IsRepair (net : ConditionNet) (flags : List Bool) (bound : ℕ) : Typ
   pub met : AreMet net flags
   pub affordable : price (chosen_in flags) net.weights ≤ bound
 
--- the formula with a bound has a model that begins with the flags exactly where they are a repair
--- of at most that price
+-- the formula with a bound has a model that begins with the flags exactly if they are a repair of
+-- at most that price
 abbrev pub ModelsAreRepairs : Type 0
 ModelsAreRepairs =
     (net : ConditionNet) (most : ℕ) (flags : List Bool) (bound : ℕ) → IsSoundNet net →
@@ -63,28 +63,28 @@ pub record HasOneModel (net : ConditionNet) (most : ℕ) (flags : List Bool) : T
   pub keeps : (bound : ℕ) → price (chosen_in flags) net.weights ≤ bound → bound ≤ most →
       KeepsBound assignment (tops_of net most) bound
 
--- where the edits meet every question, one model keeps each bound from their price on
+-- if the edits meet every question, one model keeps each bound from their price on
 abbrev pub OneModelServes : Type 0
 OneModelServes =
     (net : ConditionNet) (most : ℕ) (flags : List Bool) → IsSoundNet net →
     length flags ≡ length net.weights → AreMet net flags → HasOneModel net most flags
 
--- an assignment makes the written clauses true exactly where it makes true what they were written
--- from
+-- an assignment makes the written clauses true exactly if it makes the clauses true that they were
+-- written from
 abbrev pub WritingKeepsMeaning : Type 0
 WritingKeepsMeaning =
     (assignment : ℕ → Bool) (clauses : List (List Part)) →
     Fulfils assignment clauses ↔
     All (λ c. IsTrue (clause_value assignment c.lits)) (written_clauses clauses)
 
--- some assignment says of each edit whether it is chosen, and makes the clauses true
+-- some assignment has the flags of the edits as its first values, and makes the clauses true
 abbrev pub HaveModel : (ℕ → Bool) → ℕ → List (List Part) → Type 0
 HaveModel chosen edits clauses =
     (assignment : ℕ → Bool) × ((edit : ℕ) → edit < edits →
     assignment (edit_variable edit) ≡ chosen edit) × Fulfils assignment clauses
 
--- the clauses of a question, whose variables follow those of the edits, have a model exactly where
--- the question is met
+-- the clauses of a question, whose variables follow those of the edits, have a model exactly if the
+-- question is met
 abbrev pub QuestionsAreExact : Type 0
 QuestionsAreExact =
     (chosen : ℕ → Bool) (nodes links edits first : ℕ) (q : Question) →
@@ -95,7 +95,8 @@ QuestionsAreExact =
 abbrev pub costs_more : (ℕ → Bool) → List ℕ → ℕ → ℕ → Bool
 costs_more chosen weights edit number = nat_lt number (price_of_first chosen weights (edit + 1))
 
--- the clauses that count force each variable that has to be true, and hold where just these are
+-- the clauses of the price counter force the variable of each number below the price, and hold if
+-- just these are true
 pub record PricesAreCounted : Type 0 where
   pub forced : (assignment chosen : ℕ → Bool) (weights : List ℕ) (bound : ℕ) (above : ℕ → ℕ → ℕ) →
       ((edit : ℕ) → edit < length weights → assignment (edit_variable edit) ≡ chosen edit) →
@@ -113,13 +114,13 @@ pub record IsVariableOf (vars : ℕ) (lit : Lit) : Type 0 where
   pub least : 1 ≤ variable lit
   pub most : variable lit ≤ vars
 
--- the formula is over its variables
+-- all literals of the formula, and those of the price, are over the formula's variables
 pub record IsOverVariables (net : ConditionNet) (most : ℕ) : Type 0 where
   pub clauses : All (λ c. All (IsVariableOf (repair_formula net most).vars) c.lits)
       (repair_formula net most).clauses
   pub tops : All (IsVariableOf (repair_formula net most).vars) (tops_of net most)
 
--- of each network whose questions are over it
+-- each network of sound questions has a formula over its own variables
 abbrev pub FormulasAreOverVariables : Type 0
 FormulasAreOverVariables =
     (net : ConditionNet) (most : ℕ) → IsSoundNet net → IsOverVariables net most

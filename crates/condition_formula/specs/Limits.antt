@@ -12,7 +12,7 @@ use Rattle.condition_formula.specs.declared.fault.EncodeFault.TheVariants.{Limit
 use Rattle.condition_formula.specs.Formulas.{all_parts, variable_count}
 use Rattle.condition_formula.specs.Clauses.{literal_count}
 
--- the network is so small that its variables can be counted
+-- the network is small enough for its variables to be counted in 64 bits
 pub record IsSmallNet (net : ConditionNet) : Type 0 where
   pub nodes : net.nodes ≤ NODE_LIMIT
   pub arcs : All (λ q. length q.arcs ≤ ARC_LIMIT) net.questions
@@ -23,19 +23,19 @@ pub record IsWithinLimits (net : ConditionNet) (bound : ℕ) : Type 0 where
   pub variables : variable_count net bound ≤ VARIABLE_LIMIT
   pub literals : literal_count (all_parts net bound) ≤ LITERAL_LIMIT
 
--- there are too many variables, this many
+-- there are `count` variables, more than VARIABLE_LIMIT
 pub record HasTooManyVariables (net : ConditionNet) (bound count : ℕ) : Type 0 where
   pub many : VARIABLE_LIMIT < count
   pub exact : count ≡ variable_count net bound
 
--- the variables are few enough, but there are too many literals, this many, or the most that can be
--- counted
+-- the variables are within their limit, but there are more literals than LITERAL_LIMIT: `count` of
+-- them, or the greatest number of 64 bits if there are more
 pub record HasTooManyLiterals (net : ConditionNet) (bound count : ℕ) : Type 0 where
   pub variables : variable_count net bound ≤ VARIABLE_LIMIT
   pub many : LITERAL_LIMIT < literal_count (all_parts net bound)
   pub exact : count ≡ min (literal_count (all_parts net bound)) (2 ^ 64 - 1)
 
--- the fault is that of the network, or out of memory
+-- why there is no formula: too many variables, too many literals, or out of memory
 abbrev pub IsFaultOf : ConditionNet → ℕ → EncodeFault → Type 0
 IsFaultOf net bound Memory = Unit {0}
 IsFaultOf net bound (Limit Variables count) = HasTooManyVariables net bound count

@@ -18,19 +18,19 @@ price_of_first chosen weights many = sum_by (share chosen weights) (upto many)
 abbrev pub price : (ℕ → Bool) → List ℕ → ℕ
 price chosen weights = price_of_first chosen weights (length weights)
 
--- what the edits before cost more than, these with the edit do
+-- if the edits before it cost more than the number, they do so with this edit too
 abbrev pub kept_parts : (ℕ → ℕ → ℕ) → ℕ → ℕ → List (List Part)
 kept_parts above edit number =
     if edit == 0 then [] else (no (above (edit - 1) number) ∷ yes (above edit number) ∷ []) ∷ []
 
--- a chosen edit adds its weight
+-- a chosen edit adds its weight to the price
 abbrev pub added_parts : (ℕ → ℕ → ℕ) → ℕ → ℕ → ℕ → List (List Part)
 added_parts above weight edit number =
     if nat_lt number weight then (no (edit_variable edit) ∷ yes (above edit number) ∷ []) ∷ []
     else if edit == 0 then [] else (no (edit_variable edit) ∷
     no (above (edit - 1) (number - weight)) ∷ yes (above edit number) ∷ []) ∷ []
 
--- the clauses that count, up to the bound
+-- the clauses of the price counter, for each edit and each number up to the bound
 abbrev pub price_parts : List ℕ → ℕ → (ℕ → ℕ → ℕ) → List (List Part)
 price_parts weights bound above =
     flat_map (λ edit. flat_map (λ number. kept_parts above edit number ++

@@ -1,5 +1,5 @@
--- Clauses of reach: families of arcs that make link-disjoint paths. `used` is the variable of an
--- arc's place, or of a family and a place: the family goes over the arc.
+-- Clauses of reach: families of arcs that form link-disjoint paths. `used` is the variable of an
+-- arc's place, or of a family and a place: the family uses the arc.
 use Rattle.std.specs.Prelude.{ℕ, false, not, if◌then◌else◌, ◌==◌, ◌&&◌, List, [], ◌∷◌, ◌++◌, length}
 use Rattle.std.specs.Prelude.{map, filter, flat_map, slice_index_or}
 use Rattle.condition_formula.specs.declared.network.ConditionArc.{ConditionArc}
@@ -9,7 +9,7 @@ use Rattle.condition_formula.specs.Conditions.{lists_of, ends_of}
 use Rattle.condition_formula.specs.declared.part.Part.{Part}
 use Rattle.condition_formula.specs.Clauses.{yes, no, affirmed, denied}
 
--- what is used in the place of an arc if there is none
+-- the default for a place without an arc
 abbrev pub no_arc : ConditionArc
 no_arc = record {
   link = record { 0 = 0 };
@@ -36,23 +36,23 @@ out_of q node = filter (λ place. (arc_at q place).tail == node) (places q)
 abbrev pub into : Question → ℕ → List ℕ
 into q node = filter (λ place. (arc_at q place).head == node) (places q)
 
--- of each pair of the items not both variables are true
+-- the clauses that of any two of the items not both variables are true
 abbrev pub exclusions : {X : Type 0} → (X → ℕ) → List X → List (List Part)
 exclusions variable items =
     map (λ pair. no (variable pair.0) ∷ no (variable pair.1) ∷ []) (pairs items)
 
--- where the one is used, so is some of the others
+-- the clauses that if one of these places is used, so is one of the others
 abbrev pub implications : (ℕ → ℕ) → List ℕ → List ℕ → List (List Part)
 implications used ones others =
     map (λ place. no (used place) ∷ map (λ other. yes (used other)) others) ones
 
--- a used arc is routed
+-- each used arc is routed
 abbrev pub routed_parts : Question → (ℕ → ℕ) → List (List Part)
 routed_parts q used = flat_map
     (λ place. map (λ condition. no (used place) ∷ affirmed condition ∷ []) (arc_at q place).routing)
     (places q)
 
--- at a node between, a used arc goes on and comes from somewhere
+-- flow conservation at an inner node: a used arc enters it exactly if a used arc leaves it
 abbrev pub node_parts : Question → (ℕ → ℕ) → ℕ → List (List Part)
 node_parts q used node =
     implications used (into q node) (out_of q node) ++
@@ -66,7 +66,7 @@ once_parts q used node = exclusions used (out_of q node) ++ exclusions used (int
 abbrev pub between : Question → ℕ → List ℕ
 between q nodes = filter (λ node. not (node == q.source) && not (node == q.target)) (upto nodes)
 
--- the used arcs are routed, and make a path from the source to the target
+-- the used arcs are routed, and form a path from the source to the target
 abbrev pub family_parts : Question → ℕ → (ℕ → ℕ) → List (List Part)
 family_parts q nodes used =
     routed_parts q used ++ (map (λ place. yes (used place)) (out_of q q.source)
@@ -86,13 +86,13 @@ abbrev pub ends_parts : Question → ℕ → List (List Part)
 ends_parts q class =
     (affirmed (ends_of q class).enter ∷ []) ∷ (affirmed (ends_of q class).leave ∷ []) ∷ []
 
--- a routed arc is clear to the class
+-- if the arc is routed, it is clear to the class
 abbrev pub clear_parts : ℕ → ConditionArc → List (List Part)
 clear_parts class arc =
     (map denied arc.routing ++ affirmed (lists_of arc class).outbound ∷ [])
     ∷ (map denied arc.routing ++ affirmed (lists_of arc class).inbound ∷ []) ∷ []
 
--- paths that share no link lead over routed arcs, all of which are clear
+-- the clauses of link-disjoint paths over routed arcs, all of which are clear
 abbrev pub paths_parts : Question → ℕ → ℕ → ℕ → (ℕ → ℕ → ℕ) → List (List Part)
 paths_parts q nodes links many used =
     flat_map (λ class. flat_map (clear_parts class) q.arcs) (upto (length q.classes))
@@ -100,7 +100,7 @@ paths_parts q nodes links many used =
     ++ flat_map (λ link. exclusions (λ item. used item.0 item.1) (over_link q many link))
     (upto links)
 
--- the packets enter and leave, and where the two nodes differ there are paths
+-- the packets enter and leave, and there are paths if source and target differ
 abbrev pub reached_parts : Question → ℕ → ℕ → ℕ → (ℕ → ℕ → ℕ) → List (List Part)
 reached_parts q nodes links many used =
     flat_map (ends_parts q) (upto (length q.classes))

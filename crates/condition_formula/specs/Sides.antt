@@ -13,14 +13,15 @@ abbrev pub step_parts : (ℕ → ℕ) → ℕ → ConditionArc → List Part
 step_parts reached class arc =
     no (reached arc.tail) ∷ map denied (conditions_of arc class) ++ yes (reached arc.head) ∷ []
 
--- packets that enter come to the source, go over open arcs, and leave at no target
+-- the clauses of a class: its packets that enter are at the source, go on over open arcs, and do
+-- not leave at the target
 abbrev pub side_parts : Question → (ℕ → ℕ) → ℕ → List (List Part)
 side_parts q reached class =
     (denied (ends_of q class).enter ∷ yes (reached q.source) ∷ [])
     ∷ map (step_parts reached class) (counted q)
     ++ (no (reached q.target) ∷ denied (ends_of q class).leave ∷ []) ∷ []
 
--- the same for each class; `reached` is the variable of a class and a node
+-- the clauses of every class; `reached` is the variable of a class and a node
 abbrev pub kept_off_parts : Question → (ℕ → ℕ → ℕ) → List (List Part)
 kept_off_parts q reached =
     flat_map (λ class. side_parts q (reached class) class) (upto (length q.classes))

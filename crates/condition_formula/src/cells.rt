@@ -1,6 +1,6 @@
-//! Where a variable is in a table.
-ghost use Rattle.std.specs.Prelude.{◌≡◌, ◌<◌, ◌^◌};
+//! The variable of a cell of a table.
 ghost use Rattle.condition_formula.specs.Formulas.{cell};
+ghost use Rattle.std.specs.Prelude.{◌≡◌, ◌<◌, ◌^◌};
 
 use crate::table::Table;
 

@@ -1,11 +1,11 @@
-//! Clauses that count prices.
-ghost use Rattle.std.specs.Prelude.{◌≡◌, ◌<◌, ◌≤◌, ◌+◌, ◌^◌, [], ◌∷◌, ◌++◌, ◌-◌, length, flat_map};
-ghost use Rattle.std.specs.Prelude.{slice_index_or, OnOk};
+//! Clauses that count the price in unary: a sequential counter with weights.
 ghost use Rattle.condition_formula.specs.Clauses.{yes, no, edit_variable};
-ghost use Rattle.condition_formula.specs.Lists.{upto};
 ghost use Rattle.condition_formula.specs.Formulas.{cell};
+ghost use Rattle.condition_formula.specs.Lists.{upto};
 ghost use Rattle.condition_formula.specs.Prices.{kept_parts, added_parts, price_parts};
 ghost use Rattle.condition_formula.specs.Writing.{Adds};
+ghost use Rattle.std.specs.Prelude.{◌≡◌, ◌<◌, ◌≤◌, ◌+◌, ◌^◌, [], ◌∷◌, ◌++◌, ◌-◌, length, flat_map};
+ghost use Rattle.std.specs.Prelude.{slice_index_or, OnOk};
 
 use crate::draft::Draft;
 use crate::table::Table;
@@ -13,7 +13,7 @@ use crate::writer::Writer;
 use arc_base::Memory;
 use std::alloc::Global;
 
-/// What the edits before cost more than, these with the edit do.
+/// If the edits before it cost more than the number, they do so with this edit too.
 fn kept(alloc: Global, out: &mut Writer, above: Table, edit: u32, number: u32) -> Result<(), Memory>
     ensures { OnOk result
         (Adds out.old out.new (kept_parts (cell above.first above.columns) edit number)) }
@@ -27,7 +27,7 @@ fn kept(alloc: Global, out: &mut Writer, above: Table, edit: u32, number: u32) -
     out.put(alloc, &draft)
 }
 
-/// A chosen edit whose weight is above the number costs more than the number.
+/// A chosen edit whose weight is above the number costs more than the number by itself.
 fn added_alone(
     alloc: Global,
     out: &mut Writer,
@@ -44,7 +44,7 @@ fn added_alone(
     out.put(alloc, &draft)
 }
 
-/// A chosen edit adds its weight to what the edits before it cost.
+/// A chosen edit adds its weight to the price of the edits before it.
 fn added_on_top(
     alloc: Global,
     out: &mut Writer,
@@ -125,7 +125,7 @@ fn counted(
     Ok(())
 }
 
-/// The weight of the edit at a place.
+/// The weight of the edit at a place, or 0 if there is none.
 fn weight_at(weights: &[u32], edit: u32) -> u32
     ensures { result ≡ slice_index_or weights.now edit 0 }
 {
@@ -135,7 +135,7 @@ fn weight_at(weights: &[u32], edit: u32) -> u32
     }
 }
 
-/// The clauses that count, up to the bound.
+/// The clauses of the counter, for each number up to the bound.
 pub(crate) fn prices(
     alloc: Global,
     out: &mut Writer,

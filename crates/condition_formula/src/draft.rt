@@ -1,12 +1,12 @@
-//! A clause in the making, and the literals that it comes to.
-ghost use Rattle.std.specs.Prelude.{◌≡◌, ◌==◌, ◌<◌, ◌^◌, ◌++◌, [], ◌∷◌, map, fold, filter_map, All};
-ghost use Rattle.std.specs.Prelude.{OnOk, OnErr, IfOk};
-ghost use Rattle.std.specs.List.{list_any};
+//! A clause under construction, and its literals.
 ghost use Rattle.cnf_types.specs.Literals.{literal};
-ghost use Rattle.condition_formula.specs.declared.part.Part.TheVariants.{Fixed, Literal};
 ghost use Rattle.condition_formula.specs.Clauses.{yes, no, affirmed, denied, is_fixed_true};
 ghost use Rattle.condition_formula.specs.Clauses.{literal_of, with_literal, distinct};
 ghost use Rattle.condition_formula.specs.Writing.{IsSmall};
+ghost use Rattle.condition_formula.specs.declared.part.Part.TheVariants.{Fixed, Literal};
+ghost use Rattle.std.specs.List.{list_any};
+ghost use Rattle.std.specs.Prelude.{◌≡◌, ◌==◌, ◌<◌, ◌^◌, ◌++◌, [], ◌∷◌, map, fold, filter_map, All};
+ghost use Rattle.std.specs.Prelude.{OnOk, OnErr, IfOk};
 
 use crate::condition::Condition;
 use crate::part::Part;
@@ -15,16 +15,16 @@ use cnf_types::Lit;
 use std::alloc::Global;
 use std::marker::Model;
 
-/// The parts of a clause so far, which contracts see as the list of them.
+/// The parts of a clause so far; contracts see it as the list of them.
 #[derive(Debug, Drop)]
 pub(crate) struct Draft {
     parts: List<Part>,
 }
 
 impl Model for Draft {
-    ghost use Rattle.std.specs.Prelude.{List as Items, All};
-    ghost use Rattle.condition_formula.specs.declared.part.Part.{Part as Piece};
     ghost use Rattle.condition_formula.specs.Writing.{IsSmall};
+    ghost use Rattle.condition_formula.specs.declared.part.Part.{Part as Piece};
+    ghost use Rattle.std.specs.Prelude.{List as Items, All};
 
     ghost Value = { Items Piece };
 
@@ -33,7 +33,7 @@ impl Model for Draft {
     ghost invariant = { λ d. All IsSmall d.parts };
 }
 
-/// Adds an item, unless there is no room.
+/// Appends an item. It also fails if the list has `u32::MAX` items.
 pub fn push<T: Drop>(items: &mut List<T>, item: T) -> Result<(), Memory>
     ensures ok { OnOk result (items.new ≡ items.old ++ item ∷ []) }
     ensures err { OnErr result (items.new ≡ items.old) }
@@ -45,7 +45,7 @@ pub fn push<T: Drop>(items: &mut List<T>, item: T) -> Result<(), Memory>
 }
 
 impl Draft {
-    /// A clause without a part.
+    /// A clause without parts.
     pub fn make(alloc: Global) -> Draft
         ensures { result ≡ [] }
     {
@@ -79,21 +79,21 @@ impl Draft {
         self.part(Part::Literal(variable, false))
     }
 
-    /// Adds that a condition holds.
+    /// Adds the part that says that a condition holds.
     pub fn affirm(&mut self, condition: Condition) -> Result<(), Memory>
         ensures { OnOk result (self.new ≡ self.old ++ affirmed condition ∷ []) }
     {
         self.part(condition.affirmed())
     }
 
-    /// Adds that a condition does not hold.
+    /// Adds the part that says that a condition does not hold.
     pub fn deny(&mut self, condition: Condition) -> Result<(), Memory>
         ensures { OnOk result (self.new ≡ self.old ++ denied condition ∷ []) }
     {
         self.part(condition.denied())
     }
 
-    /// Adds of each condition that it does not hold.
+    /// Adds for each condition the part that says that it does not hold.
     pub fn deny_all(&mut self, conditions: &[Condition]) -> Result<(), Memory>
         ensures { OnOk result (self.new ≡ self.old ++ map denied conditions.now) }
     {
@@ -103,7 +103,7 @@ impl Draft {
         Ok(())
     }
 
-    /// Adds the variables.
+    /// Adds the variables, none of them negated.
     pub fn some_of(&mut self, variables: &[u64]) -> Result<(), Memory>
         requires { All (λ v. v < 2 ^ 62) variables.now }
         ensures { OnOk result (self.new ≡ self.old ++ map yes variables.now) }
@@ -114,7 +114,7 @@ impl Draft {
         Ok(())
     }
 
-    /// Whether some part makes the clause true by itself.
+    /// Whether some part makes the clause true whatever its variables are.
     pub fn is_true(&self) -> bool
         ensures { result ≡ list_any is_fixed_true self.now }
     {
@@ -129,7 +129,7 @@ impl Draft {
     }
 }
 
-/// Whether some part makes a clause true by itself.
+/// Whether some part makes a clause true whatever its variables are.
 fn is_true(parts: &[Part]) -> bool
     ensures { result ≡ list_any is_fixed_true parts.now }
 {
@@ -153,7 +153,7 @@ fn contains(lits: &[Lit], lit: Lit) -> bool
     false
 }
 
-/// Adds a literal, unless it is there already.
+/// Adds a literal that is not there yet.
 fn add(lits: &mut List<Lit>, lit: Lit) -> Result<(), Memory>
     ensures { OnOk result (lits.new ≡ with_literal lits.old lit) }
 {
@@ -163,7 +163,7 @@ fn add(lits: &mut List<Lit>, lit: Lit) -> Result<(), Memory>
     push(lits, lit)
 }
 
-/// The variable, or its negation.
+/// The literal of a variable, or of its negation.
 pub(crate) fn literal(variable: u64, positive: bool) -> Lit
     requires { variable < 2 ^ 62 }
     ensures { result ≡ literal variable positive }
@@ -177,7 +177,7 @@ pub(crate) fn literal(variable: u64, positive: bool) -> Lit
     }
 }
 
-/// Adds the literal of a part, if it is one, unless it is there already.
+/// Adds the literal of a part, if it has one that is not there yet.
 fn add_part(lits: &mut List<Lit>, part: Part) -> Result<(), Memory>
     requires { IsSmall part }
     ensures { OnOk result

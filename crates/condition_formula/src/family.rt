@@ -1,12 +1,12 @@
-//! Clauses of reach: the arcs of one family make a path.
-ghost use Rattle.std.specs.Prelude.{◌≡◌, ◌==◌, ◌<◌, ◌&&◌, not, [], ◌∷◌, if◌then◌else◌};
-ghost use Rattle.std.specs.Prelude.{map, flat_map, OnOk, IfOk, ◌^◌};
-ghost use Rattle.condition_formula.specs.Lists.{upto};
+//! Clauses of reach: the arcs of one family form a path.
 ghost use Rattle.condition_formula.specs.Clauses.{yes, no, affirmed};
+ghost use Rattle.condition_formula.specs.Lists.{upto};
 ghost use Rattle.condition_formula.specs.Reaching.{arc_at, routed_parts, node_parts, once_parts};
 ghost use Rattle.condition_formula.specs.Reaching.{between, family_parts, out_of, into};
 ghost use Rattle.condition_formula.specs.Writing.{Adds, AreSmall, row_at, picked};
 ghost use Rattle.condition_formula.specs.Writing.{HasIndex, used_by};
+ghost use Rattle.std.specs.Prelude.{◌≡◌, ◌==◌, ◌<◌, ◌&&◌, not, [], ◌∷◌, if◌then◌else◌};
+ghost use Rattle.std.specs.Prelude.{map, flat_map, OnOk, IfOk, ◌^◌};
 
 use crate::condition::Condition;
 use crate::draft::Draft;
@@ -20,11 +20,11 @@ use crate::writer::Writer;
 use arc_base::{List, Memory};
 use std::alloc::Global;
 
-/// One of the families of arcs that are to make paths of a question.
+/// One of the families of arcs of a reach question, each of which is to form a path.
 #[derive(Clone, Copy)]
 pub(crate) struct Family<'a> {
     pub q: &'a Question,
-    /// Where the question's arcs are found.
+    /// The question's arcs, by node and by link.
     pub index: &'a Index,
     pub nodes: u32,
     /// The variables of all families: a row for each, a column for each arc.
@@ -32,7 +32,7 @@ pub(crate) struct Family<'a> {
     pub number: u32,
 }
 
-/// Where the variable is true, the condition holds.
+/// If the variable is true, the condition holds.
 fn requires_condition(
     alloc: Global,
     out: &mut Writer,
@@ -48,7 +48,7 @@ fn requires_condition(
     out.put(alloc, &draft)
 }
 
-/// Where the variable is true, each of the conditions holds.
+/// If the variable is true, each of the conditions holds.
 fn requires_all(
     alloc: Global,
     out: &mut Writer,
@@ -65,7 +65,7 @@ fn requires_all(
     Ok(())
 }
 
-/// Where the variable is true, the arc at the place is routed.
+/// If the variable is true, the arc at the place is routed.
 fn routed_at(
     alloc: Global,
     out: &mut Writer,
@@ -84,7 +84,7 @@ fn routed_at(
 }
 
 impl Family<'_> {
-    /// The used arcs are routed, and make a path from the source to the target.
+    /// The used arcs are routed, and form a path from the source to the target.
     pub(crate) fn path(&self, alloc: Global, out: &mut Writer) -> Result<(), Memory>
         requires { HasIndex self.now }
         ensures { OnOk result (Adds out.old out.new
@@ -99,7 +99,7 @@ impl Family<'_> {
         Ok(())
     }
 
-    /// A used arc is routed.
+    /// Each used arc is routed.
     fn routed(&self, alloc: Global, out: &mut Writer) -> Result<(), Memory>
         ensures { OnOk result
             (Adds out.old out.new (routed_parts self.now.q.now (used_by self.now))) }
@@ -174,7 +174,7 @@ impl Family<'_> {
         self.conserves(alloc, out, node)
     }
 
-    /// Flow conservation at an inner node: a used arc goes on and comes from somewhere.
+    /// Flow conservation at an inner node: a used arc enters it exactly if a used arc leaves it.
     fn conserves(&self, alloc: Global, out: &mut Writer, node: u32) -> Result<(), Memory>
         requires out_of { row_at self.now.index.now.out_of node ≡ out_of self.now.q.now node }
         requires into { row_at self.now.index.now.into node ≡ into self.now.q.now node }
@@ -214,7 +214,7 @@ impl Family<'_> {
         Ok(())
     }
 
-    /// The variables of the arcs that are meant.
+    /// The variables of the arcs that are picked at the node or link of this number.
     fn searched(&self, alloc: Global, pick: Pick, number: u32) -> Result<List<u64>, Memory>
         ensures variables { IfOk result (λ vs.
             vs ≡ map (used_by self.now) (picked self.now.q.now pick number)) }

@@ -3,13 +3,13 @@
 use arc_base::{LimitKind, Memory};
 use thiserror::Error;
 
-/// Why there is no formula.
+/// Why `encode` gives no formula.
 #[derive(Clone, Copy, Debug, PartialEq, Eq, Error)]
 pub enum EncodeFault {
-    /// A count passes its limit: which, and how many there are.
+    /// A count exceeds its limit: which count, and its value.
     #[error("there are {1} of what is limited")]
     Limit(LimitKind, u64),
-    /// Want of memory.
+    /// Out of memory.
     #[error("out of memory")]
     Memory,
 }

@@ -1,10 +1,10 @@
 //! The repair formula of a network of conditions.
-ghost use Rattle.std.specs.Prelude.{◌≡◌, ◌<◌, ◌≤◌, ◌+◌, ◌-◌, [], ◌==◌, if◌then◌else◌, true, length};
-ghost use Rattle.std.specs.Prelude.{map, take, OnOk, IfOk, IfErr};
 ghost use Rattle.cnf_types.specs.Literals.{literal};
-ghost use Rattle.condition_formula.specs.Lists.{upto};
 ghost use Rattle.condition_formula.specs.Formulas.{cell, repair_formula, tops_of};
 ghost use Rattle.condition_formula.specs.Limits.{IsSmallNet, IsWithinLimits, IsFaultOf};
+ghost use Rattle.condition_formula.specs.Lists.{upto};
+ghost use Rattle.std.specs.Prelude.{◌≡◌, ◌<◌, ◌≤◌, ◌+◌, ◌-◌, [], ◌==◌, if◌then◌else◌, true, length};
+ghost use Rattle.std.specs.Prelude.{map, take, OnOk, IfOk, IfErr};
 
 use crate::counter::prices;
 use crate::draft::{literal, push};
@@ -15,18 +15,20 @@ use crate::table::Table;
 use crate::writer::Writer;
 use arc_base::limits::{LITERAL_LIMIT, PRICE_LIMIT, VARIABLE_LIMIT};
 use arc_base::{LimitKind, List, Memory};
-use cnf_types::{Formula, Lit};
+use cnf_types::Lit;
+use packed_formula::PackedFormula;
 use std::alloc::Global;
 
-/// The repair formula, and for each number up to the bound the literal that the price is above it;
-/// none where there are no edits.
+/// The repair formula, and for each number up to the bound the literal that says that the price is
+/// above it; no such literal if there are no edits.
 #[derive(Debug, Drop)]
-pub struct Encoded {
-    pub formula: Formula,
+pub struct PackedEncoding {
+    pub formula: PackedFormula,
     pub tops: List<Lit>,
 }
 
-/// For each number up to the bound the literal that the price of all edits is above it.
+/// For each number up to the bound the literal that says that the price of the chosen edits is
+/// above it.
 fn tops(alloc: Global, edits: u32, bound: u32, above: Table) -> Result<List<Lit>, Memory>
     requires { bound ≤ PRICE_LIMIT }
     ensures { IfOk result (λ tops. tops ≡ (if edits == 0 then []
@@ -43,8 +45,10 @@ fn tops(alloc: Global, edits: u32, bound: u32, above: Table) -> Result<List<Lit>
     Ok(tops)
 }
 
-/// The repair formula for prices up to the bound.
-pub fn encode(alloc: Global, net: &ConditionNet, bound: u32) -> Result<Encoded, EncodeFault>
+/// The repair formula for prices up to the bound. It fails with the number of variables if that is
+/// above `VARIABLE_LIMIT`, before it makes a clause, or else with the number of literals if that is
+/// above `LITERAL_LIMIT`.
+pub fn encode(alloc: Global, net: &ConditionNet, bound: u32) -> Result<PackedEncoding, EncodeFault>
     requires net { IsSmallNet net.now }
     requires bound { bound ≤ PRICE_LIMIT }
     ensures formula { IfOk result (λ encoded. encoded.formula ≡ repair_formula net.now bound) }
@@ -75,16 +79,13 @@ pub fn encode(alloc: Global, net: &ConditionNet, bound: u32) -> Result<Encoded, 
         return Err(EncodeFault::Limit(LimitKind::Literals, out.literals));
     }
     let tops = tops(alloc, edits, bound, above)?;
-    Ok(Encoded {
-        formula: Formula {
-            vars: variables,
-            clauses: out.clauses,
-        },
+    Ok(PackedEncoding {
+        formula: PackedFormula::of(variables, out.clauses),
         tops,
     })
 }
 
-/// The first values of a model, which are those of the edits.
+/// The first `count` values of a model, which are those of the edits.
 pub fn model_edits(alloc: Global, model: &List<bool>, count: u32) -> Result<List<bool>, Memory>
     requires { count ≤ length model.now }
     ensures { IfOk result (λ flags. flags ≡ take count model.now) }

@@ -1,10 +1,10 @@
-//! How the places of a question's arcs are found.
-ghost use Rattle.std.specs.Prelude.{◌≡◌, ◌<◌, [], ◌∷◌, ◌++◌, if◌then◌else◌, length, map, OnOk};
-ghost use Rattle.std.specs.Prelude.{IfOk};
+//! The arcs of a question, found by node or by link.
 ghost use Rattle.condition_formula.specs.Formulas.{cell};
 ghost use Rattle.condition_formula.specs.Reaching.{arc_at};
 ghost use Rattle.condition_formula.specs.Writing.{AreSmall, number_of, picks, picked, rows_of};
 ghost use Rattle.condition_formula.specs.Writing.{row_at, empty_rows, with_place, IsIndex};
+ghost use Rattle.std.specs.Prelude.{◌≡◌, ◌<◌, [], ◌∷◌, ◌++◌, if◌then◌else◌, length, map, OnOk};
+ghost use Rattle.std.specs.Prelude.{IfOk};
 
 use crate::draft::push;
 use crate::network::{ConditionArc, Question};
@@ -25,7 +25,7 @@ fn number_of(pick: Pick, arc: &ConditionArc) -> u32
     }
 }
 
-/// The number that the arc at a place is picked by.
+/// The number of the node or link that the arc at a place is picked by.
 fn number_at(pick: Pick, q: &Question, place: u32) -> u32
     requires { place < length q.now.arcs }
     ensures { result ≡ number_of pick (arc_at q.now place) }
@@ -36,7 +36,7 @@ fn number_at(pick: Pick, q: &Question, place: u32) -> u32
     }
 }
 
-/// Whether the arc at a place is one of those that are meant.
+/// Whether the arc at a place is picked for the number.
 fn picks_at(pick: Pick, number: u32, q: &Question, place: u32) -> bool
     requires { place < length q.now.arcs }
     ensures { result ≡ picks pick number (arc_at q.now place) }
@@ -44,7 +44,7 @@ fn picks_at(pick: Pick, number: u32, q: &Question, place: u32) -> bool
     number_at(pick, q, place) == number
 }
 
-/// Adds a place where it is wanted.
+/// Appends a place if it is wanted.
 fn push_if(places: &mut List<u32>, wanted: bool, place: u32) -> Result<(), Memory>
     ensures { OnOk result (places.new ≡ places.old ++ (if wanted then place ∷ [] else [])) }
 {
@@ -54,7 +54,7 @@ fn push_if(places: &mut List<u32>, wanted: bool, place: u32) -> Result<(), Memor
     Ok(())
 }
 
-/// The places of the arcs that are meant.
+/// The places of the arcs that are picked for the number, rising.
 pub(crate) fn picked(
     alloc: Global,
     q: &Question,
@@ -70,7 +70,7 @@ pub(crate) fn picked(
     Ok(places)
 }
 
-/// So many rows without places.
+/// Empty rows, `count` of them.
 fn empty_rows(alloc: Global, count: u32) -> Result<Vec<Row>, Memory>
     ensures { IfOk result (λ rows. rows.items ≡ empty_rows count) }
 {
@@ -83,7 +83,7 @@ fn empty_rows(alloc: Global, count: u32) -> Result<Vec<Row>, Memory>
     Ok(rows)
 }
 
-/// Puts a place at the end of the row of a number, if there is one.
+/// Appends a place to the row of a number, if there is such a row.
 fn add_place(rows: &mut Vec<Row>, number: u32, place: u32) -> Result<(), Memory>
     ensures { OnOk result (rows.new.items ≡ with_place rows.old.items number place) }
 {
@@ -95,7 +95,8 @@ fn add_place(rows: &mut Vec<Row>, number: u32, place: u32) -> Result<(), Memory>
     Ok(())
 }
 
-/// The places for each number below the count.
+/// For each number below the count, the places of the arcs that are picked for it, in one pass over
+/// the arcs.
 fn rows(alloc: Global, q: &Question, pick: Pick, count: u32) -> Result<List<Row>, Memory>
     ensures { IfOk result (λ rows. rows ≡ rows_of q.now pick count) }
 {
@@ -107,7 +108,7 @@ fn rows(alloc: Global, q: &Question, pick: Pick, count: u32) -> Result<List<Row>
     Ok(all)
 }
 
-/// The places of all arcs.
+/// The index of a question's arcs: those out of each node, into each node and over each link.
 pub(crate) fn index(alloc: Global, q: &Question, nodes: u32, links: u32) -> Result<Index, Memory>
     ensures { IfOk result (IsIndex q.now nodes links) }
 {
@@ -117,7 +118,7 @@ pub(crate) fn index(alloc: Global, q: &Question, nodes: u32, links: u32) -> Resu
     Ok(Index { out_of, into, over })
 }
 
-/// The variables of places, in a family's row.
+/// The variables of the arcs at these places, in a family's row.
 pub(crate) fn variables_of(
     alloc: Global,
     places: &[u32],

@@ -1,11 +1,11 @@
 //! The parts of a clause before it is written.
-ghost use Rattle.std.specs.Prelude.{◌≡◌, ◌+◌};
 ghost use Rattle.condition_formula.specs.Clauses.{affirmed, denied};
+ghost use Rattle.std.specs.Prelude.{◌≡◌, ◌+◌};
 
 use crate::condition::Condition;
 
-/// A part of a clause: a truth value, or a variable, which counts from 1, and whether it is not
-/// negated.
+/// A part of a clause: a truth value, or a literal: its variable, counted from 1, and whether it is
+/// positive.
 #[derive(Clone, Copy, Debug, PartialEq, Eq)]
 pub enum Part {
     Fixed(bool),

@@ -1,14 +1,14 @@
 //! Clauses of reach: families of arcs that share no link, over routed arcs that are clear.
-ghost use Rattle.std.specs.Prelude.{◌≡◌, ◌==◌, ◌<◌, [], ◌∷◌, ◌++◌, if◌then◌else◌, length, map};
-ghost use Rattle.std.specs.Prelude.{flat_map, OnOk, IfOk};
-ghost use Rattle.condition_formula.specs.Lists.{upto};
-ghost use Rattle.condition_formula.specs.declared.pick.Pick.TheVariants.{Over};
 ghost use Rattle.condition_formula.specs.Clauses.{affirmed, denied};
 ghost use Rattle.condition_formula.specs.Conditions.{lists_of, ends_of};
 ghost use Rattle.condition_formula.specs.Formulas.{cell};
+ghost use Rattle.condition_formula.specs.Lists.{upto};
 ghost use Rattle.condition_formula.specs.Reaching.{over_link, exclusions, ends_parts, clear_parts};
 ghost use Rattle.condition_formula.specs.Reaching.{family_parts, paths_parts, reached_parts};
 ghost use Rattle.condition_formula.specs.Writing.{Adds, AreSmall, IsIndex, row_at, picked};
+ghost use Rattle.condition_formula.specs.declared.pick.Pick.TheVariants.{Over};
+ghost use Rattle.std.specs.Prelude.{◌≡◌, ◌==◌, ◌<◌, [], ◌∷◌, ◌++◌, if◌then◌else◌, length, map};
+ghost use Rattle.std.specs.Prelude.{flat_map, OnOk, IfOk};
 
 use crate::condition::Condition;
 use crate::draft::{Draft, push};
@@ -23,15 +23,16 @@ use crate::writer::Writer;
 use arc_base::{List, Memory};
 use std::alloc::Global;
 
-/// The paths of which no two share a link, that a reach question asks for.
+/// The link-disjoint paths that a reach question asks for.
 #[derive(Clone, Copy)]
 pub(crate) struct Paths<'a> {
     pub q: &'a Question,
     pub nodes: u32,
     pub links: u32,
-    /// How many are asked for.
+    /// The number of paths.
     pub many: u32,
-    /// For each path and each arc whether the path goes over the arc.
+    /// The variables that say which arcs each path uses: a row for each path, a column for each
+    /// arc.
     pub used: Table,
 }
 
@@ -54,7 +55,7 @@ fn ends(alloc: Global, out: &mut Writer, q: &Question, class: u32) -> Result<(),
     Ok(())
 }
 
-/// The packets of each class enter and leave.
+/// Asks that the packets of each class enter and leave.
 fn all_ends(alloc: Global, out: &mut Writer, q: &Question) -> Result<(), Memory>
     ensures { OnOk result
         (Adds out.old out.new (flat_map (ends_parts q.now) (upto (length q.now.classes)))) }
@@ -65,7 +66,7 @@ fn all_ends(alloc: Global, out: &mut Writer, q: &Question) -> Result<(), Memory>
     Ok(())
 }
 
-/// Where all of the conditions hold, one more does.
+/// If all of the conditions hold, so does one more.
 fn all_require(
     alloc: Global,
     out: &mut Writer,
@@ -81,7 +82,7 @@ fn all_require(
     out.put(alloc, &draft)
 }
 
-/// Where the arc is routed, it is clear to the class.
+/// If the arc is routed, it is clear to the class.
 fn clear(alloc: Global, out: &mut Writer, class: u32, arc: &ConditionArc) -> Result<(), Memory>
     ensures { OnOk result (Adds out.old out.new (clear_parts class arc.now)) }
 {
@@ -113,7 +114,7 @@ fn all_clear(alloc: Global, out: &mut Writer, q: &Question) -> Result<(), Memory
     Ok(())
 }
 
-/// Adds variables at the end.
+/// Appends variables.
 fn extend(variables: &mut List<u64>, more: &[u64]) -> Result<(), Memory>
     requires small { AreSmall variables.old }
     requires more { AreSmall more.now }
@@ -127,7 +128,7 @@ fn extend(variables: &mut List<u64>, more: &[u64]) -> Result<(), Memory>
 }
 
 impl Paths<'_> {
-    /// The packets enter and leave, and where the two nodes differ there are paths.
+    /// The packets enter and leave, and there are paths if source and target differ.
     pub(crate) fn reached(&self, alloc: Global, out: &mut Writer) -> Result<(), Memory>
         ensures { OnOk result (Adds out.old out.new (reached_parts self.now.q.now self.now.nodes
             self.now.links self.now.many (cell self.now.used.first self.now.used.columns))) }
@@ -137,7 +138,7 @@ impl Paths<'_> {
         Ok(())
     }
 
-    /// The clauses of the paths; none where source and target are one node.
+    /// The clauses of the paths; none if source and target are one node.
     fn paths_between(&self, alloc: Global, out: &mut Writer) -> Result<(), Memory>
         ensures { OnOk result (Adds out.old out.new
             (if self.now.q.now.source == self.now.q.now.target then []
@@ -162,7 +163,7 @@ impl Paths<'_> {
         Ok(())
     }
 
-    /// Each family makes a path.
+    /// Each family forms a path.
     fn families(&self, alloc: Global, out: &mut Writer, index: &Index) -> Result<(), Memory>
         requires { IsIndex self.now.q.now self.now.nodes self.now.links index.now }
         ensures { OnOk result (Adds out.old out.new (flat_map (λ f.
@@ -182,7 +183,7 @@ impl Paths<'_> {
         Ok(())
     }
 
-    /// At most one family goes over each link, in one direction.
+    /// At most one family uses each link, in one direction.
     fn own_links(&self, alloc: Global, out: &mut Writer, index: &Index) -> Result<(), Memory>
         requires { IsIndex self.now.q.now self.now.nodes self.now.links index.now }
         ensures { OnOk result (Adds out.old out.new (flat_map (λ link.
@@ -195,7 +196,7 @@ impl Paths<'_> {
         Ok(())
     }
 
-    /// At most one family goes over the link, in one direction.
+    /// At most one family uses the link, in one direction.
     fn own_link(
         &self,
         alloc: Global,
@@ -213,7 +214,7 @@ impl Paths<'_> {
         Ok(())
     }
 
-    /// The variables over the link, of each family in order.
+    /// The variables of the arcs over the link, of each family in order.
     fn over_link(&self, alloc: Global, index: &Index, link: u32) -> Result<List<u64>, Memory>
         requires { row_at index.now.over link ≡ picked self.now.q.now Over link }
         ensures variables { IfOk result (λ vs. vs

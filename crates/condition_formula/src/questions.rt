@@ -1,9 +1,9 @@
 //! The variables and clauses of all questions.
-ghost use Rattle.std.specs.Prelude.{◌≡◌, ◌<◌, ◌≤◌, ◌+◌, ◌*◌, ◌^◌, length, sum_by, All, OnOk, IfOk};
 ghost use Rattle.condition_formula.specs.Formulas.{demand_parts, question_size, questions_parts};
 ghost use Rattle.condition_formula.specs.Formulas.{variable_count};
 ghost use Rattle.condition_formula.specs.Limits.{IsSmallNet};
 ghost use Rattle.condition_formula.specs.Writing.{Adds};
+ghost use Rattle.std.specs.Prelude.{◌≡◌, ◌<◌, ◌≤◌, ◌+◌, ◌*◌, ◌^◌, length, sum_by, All, OnOk, IfOk};
 
 use crate::network::{ConditionNet, Demand, Question};
 use crate::paths::Paths;
@@ -14,7 +14,7 @@ use arc_base::Memory;
 use arc_base::limits::{ARC_LIMIT, NODE_LIMIT, PRICE_LIMIT, QUESTION_LIMIT};
 use std::alloc::Global;
 
-/// How many variables a question has.
+/// The number of variables of a question.
 fn question_size(q: &Question, nodes: u32) -> u64
     requires nodes { nodes ≤ NODE_LIMIT }
     requires arcs { length q.now.arcs ≤ ARC_LIMIT }
@@ -33,7 +33,7 @@ fn question_size(q: &Question, nodes: u32) -> u64
     }
 }
 
-/// How many variables the questions have.
+/// The number of variables of all questions.
 fn questions_size(questions: &[Question], nodes: u32) -> u64
     requires nodes { nodes ≤ NODE_LIMIT }
     requires arcs { All (λ q. length q.arcs ≤ ARC_LIMIT) questions.now }
@@ -48,7 +48,7 @@ fn questions_size(questions: &[Question], nodes: u32) -> u64
     total
 }
 
-/// How many variables the formula has.
+/// The number of variables of the formula.
 pub(crate) fn variable_count(net: &ConditionNet, bound: u32) -> u64
     requires net { IsSmallNet net.now }
     requires bound { bound ≤ PRICE_LIMIT }
@@ -58,7 +58,7 @@ pub(crate) fn variable_count(net: &ConditionNet, bound: u32) -> u64
     edits + questions_size(net.questions.slice(), net.nodes) + edits * (u64::from(bound) + 1)
 }
 
-/// The clauses of a question, whose variables begin with the given one.
+/// The clauses of a question, whose variables start at `first`.
 fn question(
     alloc: Global,
     out: &mut Writer,
@@ -92,7 +92,7 @@ fn question(
     }
 }
 
-/// The clauses of all questions, whose variables begin with the given one, and the variable after
+/// The clauses of all questions, whose variables start at `first`. Returns the variable after
 /// theirs.
 pub(crate) fn questions(
     alloc: Global,

@@ -1,10 +1,10 @@
 //! Clauses of blocked and through: closed sides.
-ghost use Rattle.std.specs.Prelude.{◌≡◌, [], ◌∷◌, if◌then◌else◌, map, OnOk};
 ghost use Rattle.condition_formula.specs.Clauses.{yes, no, denied};
 ghost use Rattle.condition_formula.specs.Conditions.{lists_of, ends_of, is_counted, counted};
 ghost use Rattle.condition_formula.specs.Formulas.{cell};
 ghost use Rattle.condition_formula.specs.Sides.{step_parts, side_parts, kept_off_parts};
 ghost use Rattle.condition_formula.specs.Writing.{Adds};
+ghost use Rattle.std.specs.Prelude.{◌≡◌, [], ◌∷◌, if◌then◌else◌, map, OnOk};
 
 use crate::condition::{ArcLists, ClassEnds, Condition};
 use crate::draft::Draft;
@@ -14,7 +14,7 @@ use crate::writer::Writer;
 use arc_base::Memory;
 use std::alloc::Global;
 
-/// What the packet lists of an arc say of a class.
+/// The conditions of an arc's packet lists for a class, which always hold if the arc has none.
 pub(crate) fn lists_of(arc: &ConditionArc, class: u32) -> ArcLists
     ensures { result ≡ lists_of arc.now class }
 {
@@ -27,7 +27,8 @@ pub(crate) fn lists_of(arc: &ConditionArc, class: u32) -> ArcLists
     }
 }
 
-/// Where the packets of a class enter and leave.
+/// The conditions under which the packets of a class enter and leave, which always hold if there is
+/// no such class.
 pub(crate) fn ends_of(q: &Question, class: u32) -> ClassEnds
     ensures { result ≡ ends_of q.now class }
 {
@@ -40,7 +41,7 @@ pub(crate) fn ends_of(q: &Question, class: u32) -> ClassEnds
     }
 }
 
-/// Whether an arc counts for a demand.
+/// Whether an arc counts for a demand: through leaves out the arcs of waypoints.
 fn is_counted(demand: Demand, arc: &ConditionArc) -> bool
     ensures { result ≡ is_counted demand arc.now }
 {
@@ -106,7 +107,7 @@ fn steps(
     Ok(())
 }
 
-/// Packets of the class that enter come to the source.
+/// Packets of the class that enter are at the source.
 fn enters(
     alloc: Global,
     out: &mut Writer,
@@ -123,7 +124,7 @@ fn enters(
     out.put(alloc, &draft)
 }
 
-/// Packets of the class that come to the target do not leave.
+/// Packets of the class that are at the target do not leave.
 fn leaves(
     alloc: Global,
     out: &mut Writer,
@@ -141,7 +142,8 @@ fn leaves(
     out.put(alloc, &draft)
 }
 
-/// Packets of the class that enter come to the source, go over open arcs, and leave at no target.
+/// The clauses of a class: its packets that enter are at the source, go on over open arcs, and do
+/// not leave at the target.
 fn side(
     alloc: Global,
     out: &mut Writer,

@@ -1,6 +1,6 @@
 //! Whether a network of conditions is small enough to be encoded.
-ghost use Rattle.std.specs.Prelude.{◌≤◌, ◌↔◌, IsTrue, length, All};
 ghost use Rattle.condition_formula.specs.Limits.{IsSmallNet};
+ghost use Rattle.std.specs.Prelude.{◌≤◌, ◌↔◌, IsTrue, length, All};
 
 use crate::network::{ConditionNet, Question};
 use arc_base::limits::{ARC_LIMIT, NODE_LIMIT, QUESTION_LIMIT};
@@ -18,8 +18,8 @@ fn are_small(questions: &[Question]) -> bool
 }
 
 impl ConditionNet {
-    /// Whether there are at most `NODE_LIMIT` nodes, `QUESTION_LIMIT` questions, and `ARC_LIMIT`
-    /// arcs of each.
+    /// Whether there are at most `NODE_LIMIT` nodes and `QUESTION_LIMIT` questions, with at most
+    /// `ARC_LIMIT` arcs each.
     pub fn is_small(&self) -> bool
         ensures { IsTrue result ↔ IsSmallNet self.now }
     {

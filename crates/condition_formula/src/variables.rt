@@ -1,15 +1,15 @@
 //! Clauses over lists of variables.
-ghost use Rattle.std.specs.Prelude.{◌<◌, ◌^◌, [], ◌∷◌, map, OnOk};
 ghost use Rattle.condition_formula.specs.Clauses.{yes, no};
 ghost use Rattle.condition_formula.specs.Reaching.{exclusions};
 ghost use Rattle.condition_formula.specs.Writing.{Adds, AreSmall, each_implies, excludes_each};
+ghost use Rattle.std.specs.Prelude.{◌<◌, ◌^◌, [], ◌∷◌, map, OnOk};
 
 use crate::draft::Draft;
 use crate::writer::Writer;
 use arc_base::Memory;
 use std::alloc::Global;
 
-/// Some of the variables is true.
+/// At least one of the variables is true.
 pub(crate) fn some_of(alloc: Global, out: &mut Writer, variables: &[u64]) -> Result<(), Memory>
     requires { AreSmall variables.now }
     ensures { OnOk result (Adds out.old out.new (map yes variables.now ∷ [])) }
@@ -19,7 +19,7 @@ pub(crate) fn some_of(alloc: Global, out: &mut Writer, variables: &[u64]) -> Res
     out.put(alloc, &draft)
 }
 
-/// The variable is not true.
+/// The variable is false.
 fn not(alloc: Global, out: &mut Writer, variable: u64) -> Result<(), Memory>
     requires { variable < 2 ^ 62 }
     ensures { OnOk result (Adds out.old out.new ((no variable ∷ []) ∷ [])) }
@@ -40,7 +40,7 @@ pub(crate) fn none_of(alloc: Global, out: &mut Writer, variables: &[u64]) -> Res
     Ok(())
 }
 
-/// Where the variable is true, some of the others is.
+/// If the variable is true, so is one of the others.
 fn one_implies(alloc: Global, out: &mut Writer, one: u64, others: &[u64]) -> Result<(), Memory>
     requires one { one < 2 ^ 62 }
     requires others { AreSmall others.now }
@@ -52,7 +52,7 @@ fn one_implies(alloc: Global, out: &mut Writer, one: u64, others: &[u64]) -> Res
     out.put(alloc, &draft)
 }
 
-/// Where one of the variables is true, some of the others is.
+/// If one of the variables is true, so is one of the others.
 pub(crate) fn each_implies(
     alloc: Global,
     out: &mut Writer,
@@ -81,7 +81,7 @@ fn not_both(alloc: Global, out: &mut Writer, one: u64, other: u64) -> Result<(),
     out.put(alloc, &draft)
 }
 
-/// Not both the variable and one of the others are true.
+/// The variable is not true together with any of the others.
 fn excludes_each(alloc: Global, out: &mut Writer, one: u64, others: &[u64]) -> Result<(), Memory>
     requires one { one < 2 ^ 62 }
     requires others { AreSmall others.now }
@@ -93,7 +93,7 @@ fn excludes_each(alloc: Global, out: &mut Writer, one: u64, others: &[u64]) -> R
     Ok(())
 }
 
-/// Not both of two of the variables are true.
+/// At most one of the variables is true: a clause for each pair.
 pub(crate) fn exclusions(alloc: Global, out: &mut Writer, variables: &[u64]) -> Result<(), Memory>
     requires { AreSmall variables.now }
     ensures { OnOk result (Adds out.old out.new (exclusions (λ v. v) variables.now)) }

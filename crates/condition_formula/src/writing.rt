@@ -1,27 +1,28 @@
-//! How a clause is written.
-ghost use Rattle.std.specs.Prelude.{◌≡◌, [], ◌∷◌, OnOk};
+//! Writing a clause.
 ghost use Rattle.condition_formula.specs.Writing.{Adds};
+ghost use Rattle.std.specs.Prelude.{◌≡◌, [], ◌∷◌, OnOk};
 
-use crate::draft::{Draft, push};
+use crate::draft::Draft;
 use crate::writer::Writer;
+use arc_base::Memory;
 use arc_base::limits::LITERAL_LIMIT;
-use arc_base::{List, Memory};
-use cnf_types::Clause;
+use packed_formula::PackedClauses;
 use std::alloc::Global;
 
 impl Writer {
-    /// No clause.
+    /// A writer without clauses.
     pub(crate) fn make(alloc: Global) -> Writer
         ensures clauses { result.clauses ≡ [] }
         ensures literals { result.literals ≡ 0 }
     {
         Writer {
-            clauses: List::make(alloc),
+            clauses: PackedClauses::make(alloc),
             literals: 0,
         }
     }
 
-    /// Writes a clause, unless a part makes it true by itself.
+    /// Writes a clause, unless a part makes it true whatever its variables are. Its literals are
+    /// counted even if the clause is not kept.
     pub(crate) fn put(&mut self, alloc: Global, draft: &Draft) -> Result<(), Memory>
         ensures { OnOk result (Adds self.old self.new (draft.now ∷ [])) }
     {
@@ -31,7 +32,7 @@ impl Writer {
         let lits = draft.literals(alloc)?;
         self.literals = self.literals.saturating_add(u64::from(lits.len()));
         if self.literals <= LITERAL_LIMIT {
-            push(&mut self.clauses, Clause { lits })?;
+            self.clauses.push(lits.slice())?;
         }
         Ok(())
     }

@@ -1,5 +1,5 @@
 -- The arcs of conditions are those that are routed after some edits, and stand for them.
-use Rattle.std.proofs.Common.{◌≡◌, ℕ, ◌<◌, ◌↔◌, ◌&&◌, inl, inr, Bool, true, false, not, IsTrue, Option, Some, None, List, [], ◌∷◌, length, refl, sym, ◌∙◌, ap, subst}
+use Rattle.std.proofs.Common.{◌≡◌, ℕ, ◌↔◌, ◌&&◌, inl, inr, Bool, true, false, not, IsTrue, Option, Some, None, List, [], ◌∷◌, refl, sym, ◌∙◌, ap, subst}
 use Rattle.std.specs.Prelude.{Contains, slice_get, if◌then◌else◌}
 use Rattle.std.specs.List.{flat_map, list_any, list_all}
 use Rattle.std.specs.Option.{option_map_or}
@@ -33,7 +33,7 @@ use Rattle.policy_encode.specs.Answers.{session_condition, route_condition, arc_
 use Rattle.policy_encode.specs.Laws.{IsEdited}
 use Rattle.policy_encode.specs.Questions.{is_able, is_never, routing_of, tail_row, head_row, arc_over, able_arcs, link_arcs, arcs_to}
 use Rattle.policy_encode.proofs.Ables.{able_value, told_value}
-use Rattle.network_edit_laws.proofs.Apart.{from_placed, to_placed}
+use Rattle.edit_list.proofs.NewListFacts.{placed_is, placed_there}
 use Rattle.policy_encode.specs.Mirrors.{IsMirror, HasMirror}
 use Rattle.policy_encode.proofs.Packets.{outbound_value, inbound_value}
 use Rattle.policy_encode.proofs.Sessions.{open_value, route_value}
@@ -74,7 +74,8 @@ module _ (net : Network) (list : List Edit) (to : Prefix) (classes : List Class)
       let told = in_if (is_told net to) (flat_map (link_arcs net list to classes) (placed net.links)) ca m in
       let piece = from_piece (link_arcs net list to classes) (placed net.links) ca told.1 in
       let link : ℕ × LinkRow = piece.0 in
-      let at_a = in_or (λ (a : FaceRow). option_map_or (λ (b : FaceRow). if is_able net link.1 a b then able_arcs net list to classes link a b else []) (slice_get net.faces link.1.b.0) []) (slice_get net.faces link.1.a.0) ca piece.2 in
+      let at_a = in_or (λ (a : FaceRow). option_map_or (λ (b : FaceRow). if is_able net link.1 a b then able_arcs net list to classes link a b else []) (slice_get net.faces link.1.b.0)
+      []) (slice_get net.faces link.1.a.0) ca piece.2 in
       let at_b = in_or (λ (b : FaceRow). if is_able net link.1 at_a.0 b then able_arcs net list to classes link at_a.0 b else []) (slice_get net.faces link.1.b.0) ca at_a.2 in
       let able = in_if (is_able net link.1 at_a.0 at_b.0) (able_arcs net list to classes link at_a.0 at_b.0) ca at_b.2 in
       let both = arc_over net list to classes link at_a.0 at_b.0 true ∷ arc_over net list to classes link at_a.0 at_b.0 false ∷ [] in
@@ -85,7 +86,7 @@ module _ (net : Network) (list : List Edit) (to : Prefix) (classes : List Class)
         a = at_a.0;
         b = at_b.0;
         from_a = from_a;
-        at_link = from_placed net.links link.0 link.1 piece.1;
+        at_link = placed_is net.links link piece.1;
         at_a = at_a.1;
         at_b = at_b.1;
         told = told.0;
@@ -106,18 +107,19 @@ module _ (net : Network) (list : List Edit) (to : Prefix) (classes : List Class)
 
   -- and such an arc is there, unless a condition of it never holds
   pub stands : (link : ℕ) (row : LinkRow) (a b : FaceRow) (from_a : Bool) → slice_get net.links link ≡ Some row → slice_get net.faces row.a.0 ≡ Some a → slice_get net.faces row.b.0 ≡ Some b →
-      is_told net to ≡ true → is_able net row a b ≡ true → list_any is_never (routing_of net list to row a b from_a) ≡ false → Contains (arcs_to net list to classes) (arc_over net list to classes (link, row) a b from_a)
+      is_told net to ≡ true → is_able net row a b ≡ true → list_any is_never (routing_of net list to row a b from_a) ≡ false →
+      Contains (arcs_to net list to classes) (arc_over net list to classes (link, row) a b from_a)
   stands link row a b from_a at_link at_a at_b told able none =
       let ca = arc_over net list to classes (link, row) a b from_a in
       let both = arc_over net list to classes (link, row) a b true ∷ arc_over net list to classes (link, row) a b false ∷ [] in
-      let l : link < length net.links = slice_get_within net.links link row at_link in
-      let placed_there = to_placed net.links link row at_link l (get_or_from_slice_get net.links link row row at_link) in
       let kept : Contains (able_arcs net list to classes (link, row) a b) ca =
       Contains-filter (λ (arc : ConditionArc). not (list_any is_never arc.routing)) both ca
-      (in_both (arc_over net list to classes (link, row) a b true) (arc_over net list to classes (link, row) a b false) (arc_over net list to classes (link, row) a b) from_a refl refl) (ap not none) in
+      (in_both (arc_over net list to classes (link, row) a b true) (arc_over net list to classes (link, row) a b false) (arc_over net list to classes (link, row) a b) from_a refl refl)
+      (ap not none) in
       to_if (is_told net to) (flat_map (link_arcs net list to classes) (placed net.links)) ca told
-      (Contains-piece (link_arcs net list to classes) (placed net.links) (link, row) ca placed_there
-      (to_or (λ (x : FaceRow). option_map_or (λ (y : FaceRow). if is_able net row x y then able_arcs net list to classes (link, row) x y else []) (slice_get net.faces row.b.0) []) (slice_get net.faces row.a.0) a ca at_a
+      (Contains-piece (link_arcs net list to classes) (placed net.links) (link, row) ca (placed_there net.links link row at_link)
+      (to_or (λ (x : FaceRow). option_map_or (λ (y : FaceRow). if is_able net row x y then able_arcs net list to classes (link, row) x y else []) (slice_get net.faces row.b.0) [])
+      (slice_get net.faces row.a.0) a ca at_a
       (to_or (λ (y : FaceRow). if is_able net row a y then able_arcs net list to classes (link, row) a y else []) (slice_get net.faces row.b.0) b ca at_b
       (to_if (is_able net row a b) (able_arcs net list to classes (link, row) a b) ca able kept))))
 
@@ -189,13 +191,15 @@ module _ (net : Network) (doc : Document) (list : List Edit) (flags : List Bool)
       -- the arc is routed after the edits where its conditions hold
       carried : (from_a : Bool) → is_told net ends.to ≡ true → IsTrue (is_routed (chosen_in flags) (ca_of from_a)) → IsRouted after ends.to (arc_of from_a)
       carried true told routed =
-          let h = three (holds (chosen_in flags) (session_condition net list row.a a)) (holds (chosen_in flags) (session_condition net list row.b b)) (holds (chosen_in flags) (route_condition net list ends.to row.a (session_at net row.a))) routed in
+          let h = three (holds (chosen_in flags) (session_condition net list row.a a)) (holds (chosen_in flags) (session_condition net list row.b b))
+          (holds (chosen_in flags) (route_condition net list ends.to row.a (session_at net row.a))) routed in
           record {
             told = (told_value net (chosen_of list flags) after ed.is_after ends.to).0 told;
             carries = record { able_tail = able_a.0 ables.0; able_head = able_b.0 ables.1; open_tail = open_a.1 h.0; open_head = open_b.1 h.1; filter = (taken row.a).1 h.2 };
           }
       carried false told routed =
-          let h = three (holds (chosen_in flags) (session_condition net list row.a a)) (holds (chosen_in flags) (session_condition net list row.b b)) (holds (chosen_in flags) (route_condition net list ends.to row.b (session_at net row.b))) routed in
+          let h = three (holds (chosen_in flags) (session_condition net list row.a a)) (holds (chosen_in flags) (session_condition net list row.b b))
+          (holds (chosen_in flags) (route_condition net list ends.to row.b (session_at net row.b))) routed in
           record {
             told = (told_value net (chosen_of list flags) after ed.is_after ends.to).0 told;
             carries = record { able_tail = able_b.0 ables.1; able_head = able_a.0 ables.0; open_tail = open_b.1 h.1; open_head = open_a.1 h.0; filter = (taken row.b).1 h.2 };
@@ -203,10 +207,12 @@ module _ (net : Network) (doc : Document) (list : List Edit) (flags : List Bool)
 
       conditions : (from_a : Bool) → IsRouted after ends.to (arc_of from_a) → IsTrue (is_routed (chosen_in flags) (ca_of from_a))
       conditions true r =
-          all_three (holds (chosen_in flags) (session_condition net list row.a a)) (holds (chosen_in flags) (session_condition net list row.b b)) (holds (chosen_in flags) (route_condition net list ends.to row.a (session_at net row.a)))
+          all_three (holds (chosen_in flags) (session_condition net list row.a a)) (holds (chosen_in flags) (session_condition net list row.b b)) (holds
+          (chosen_in flags) (route_condition net list ends.to row.a (session_at net row.a)))
           (open_a.0 r.carries.open_tail) (open_b.0 r.carries.open_head) ((taken row.a).0 r.carries.filter)
       conditions false r =
-          all_three (holds (chosen_in flags) (session_condition net list row.a a)) (holds (chosen_in flags) (session_condition net list row.b b)) (holds (chosen_in flags) (route_condition net list ends.to row.b (session_at net row.b)))
+          all_three (holds (chosen_in flags) (session_condition net list row.a a)) (holds (chosen_in flags) (session_condition net list row.b b)) (holds
+          (chosen_in flags) (route_condition net list ends.to row.b (session_at net row.b)))
           (open_a.0 r.carries.open_head) (open_b.0 r.carries.open_tail) ((taken row.b).0 r.carries.filter)
 
     is_able_now : (from_a : Bool) → IsRouted after ends.to (arc_of from_a) → is_able net row a b ≡ true
@@ -217,10 +223,12 @@ module _ (net : Network) (doc : Document) (list : List Edit) (flags : List Bool)
     lists_are : (from_a : Bool) (k : ℕ) (class : Class) → slice_get classes k ≡ Some class →
         lists_of (ca_of from_a) k ≡ arc_lists net list (tail_row a b from_a) (head_end row from_a) (head_row a b from_a) class
     lists_are from_a k class at =
-        get_or-map (arc_lists net list (tail_row a b from_a) (head_end row from_a) (head_row a b from_a)) classes k class (record { outbound = Always; inbound = Always }) (slice_get_within classes k class at) ∙
+        get_or-map (arc_lists net list (tail_row a b from_a) (head_end row from_a) (head_row a b from_a)) classes k class (record { outbound = Always; inbound = Always })
+        (slice_get_within classes k class at) ∙
         ap (arc_lists net list (tail_row a b from_a) (head_end row from_a) (head_row a b from_a)) (get_or_from_slice_get classes k class class at)
 
-    permits_as : (from_a : Bool) (k : ℕ) (lists : ArcLists) → lists_of (ca_of from_a) k ≡ lists → {P Q : Type 0} → (P ↔ IsTrue (holds (chosen_in flags) lists.outbound)) → (Q ↔ IsTrue (holds (chosen_in flags) lists.inbound)) →
+    permits_as : (from_a : Bool) (k : ℕ) (lists : ArcLists) → lists_of (ca_of from_a) k ≡ lists → {P Q : Type 0} →
+        (P ↔ IsTrue (holds (chosen_in flags) lists.outbound)) → (Q ↔ IsTrue (holds (chosen_in flags) lists.inbound)) →
         (P × Q) ↔ IsClearArc (chosen_in flags) k (ca_of from_a)
     permits_as from_a k lists e out ins =
         let O : ArcLists → Type 0 = λ l. IsTrue (holds (chosen_in flags) l.outbound) in
@@ -260,7 +268,8 @@ module _ (net : Network) (doc : Document) (list : List Edit) (flags : List Bool)
         arc = arc_of from.link from.row from.a from.b c.0 d.0 rows from.from_a;
         is_arc = is_arc from.link from.row from.a from.b c.0 d.0 rows from.from_a;
         routed = carried from.link from.row from.a from.b c.0 d.0 rows from.able from.from_a from.told (subst (λ (x : ConditionArc). IsTrue (is_routed (chosen_in flags) x)) (sym from.is) routed);
-        is_mirror = subst (λ (x : ConditionArc). IsMirror after classes (chosen_in flags) x (arc_of from.link from.row from.a from.b c.0 d.0 rows from.from_a)) from.is (mirrors from.link from.row from.a from.b c.0 d.0 rows from.from_a);
+        is_mirror = subst (λ (x : ConditionArc). IsMirror after classes (chosen_in flags) x (arc_of from.link from.row from.a from.b c.0 d.0 rows from.from_a)) from.is
+            (mirrors from.link from.row from.a from.b c.0 d.0 rows from.from_a);
       }
 
   -- what stands for a routed arc
@@ -270,7 +279,8 @@ module _ (net : Network) (doc : Document) (list : List Edit) (flags : List Bool)
     pub routed : IsTrue (is_routed (chosen_in flags) ca)
     pub is_mirror : IsMirror after classes (chosen_in flags) ca arc
 
-  stands_for : (link : ℕ) (row : LinkRow) (a b c d : FaceRow) (rows : Rows link row a b c d) (from_a : Bool) → IsRouted after ends.to (arc_of link row a b c d rows from_a) → Stands (arc_of link row a b c d rows from_a)
+  stands_for : (link : ℕ) (row : LinkRow) (a b c d : FaceRow) (rows : Rows link row a b c d) (from_a : Bool) →
+      IsRouted after ends.to (arc_of link row a b c d rows from_a) → Stands (arc_of link row a b c d rows from_a)
   stands_for link row a b c d rows from_a routed =
       let able : is_able net row a b ≡ true = is_able_now link row a b c d rows from_a routed in
       let told : is_told net ends.to ≡ true = (told_value net (chosen_of list flags) after ed.is_after ends.to).1 routed.told in

@@ -54,7 +54,8 @@ on_or_off : (b : Bool) → (IsFalse b → ⊥) → IsTrue b
 on_or_off true h = refl
 on_or_off false h = absurd (h refl)
 
-pub simple_path : (nodes : ℕ) (arcs : List shown.Arc) → graphs.IsGraph (record { nodes = nodes; arcs = arcs }) → (s t : ℕ) → s < nodes → t < nodes → graphs.Leads arcs s t → (links : List Link) × graphs.IsPath arcs s links t
+pub simple_path : (nodes : ℕ) (arcs : List shown.Arc) → graphs.IsGraph (record { nodes = nodes; arcs = arcs }) → (s t : ℕ) → s < nodes → t < nodes →
+    graphs.Leads arcs s t → (links : List Link) × graphs.IsPath arcs s links t
 simple_path nodes arcs graph s t in_s in_t leads = elim (cases_eq s t) [
   | inl same ↦ ([], record { way = []; of_links = refl; leads = same; once = AllPairs-single (λ (x : ℕ) (y : ℕ). x ≢ y) s })
   | inr apart ↦ elim (paths_or_cut (record { nodes = nodes; arcs = arcs }) graph s t 1 in_s in_t apart) [
@@ -71,7 +72,8 @@ simple_path nodes arcs graph s t in_s in_t leads = elim (cases_eq s t) [
 
 module _ (net : Network) (ends : Ends) (classes : List Class) (chosen : ℕ → Bool) (q : Question) (m : Mirrors net ends classes chosen q) (kind : PolicyKind) (demand : q.demand ≡ demand_of kind) where
   -- an arc over which the packet goes on stands in the question, open
-  in_open : (k : ℕ) (class : Class) → slice_get classes k ≡ Some class → (p : Packet) → IsOf class p → (arc : Arc) → (is : IsMirrored net classes chosen q arc) → MayBreak kind arc → ArcPermits net arc p →
+  in_open : (k : ℕ) (class : Class) → slice_get classes k ≡ Some class → (p : Packet) → IsOf class p → (arc : Arc) →
+      (is : IsMirrored net classes chosen q arc) → MayBreak kind arc → ArcPermits net arc p →
       Contains (open_arcs chosen q k) (bare is.ca)
   in_open k class at p of_p arc is may permits =
       let counts : is_counted q.demand is.ca ≡ true = subst (λ (d : Demand). is_counted d is.ca ≡ true) (sym demand) (breaks_counts kind is.ca arc is.is_mirror.waypoint may) in
@@ -88,7 +90,8 @@ module _ (net : Network) (ends : Ends) (classes : List Class) (chosen : ℕ → 
       let rest = walk_leads k class at failed d p of_p arcs (head_router arc) v walk.3 (λ b in_b. may b (Contains-tail arc b arcs in_b)) in
       (bare is.ca ∷ rest.0, (one, is.is_mirror.tail ∙ walk.0, subst (λ n. graphs.Path (open_arcs chosen q k) n rest.0 v) (sym is.is_mirror.head) rest.1))
 
-  delivered_comes : (failed : FailureSet) (d : DistanceMap) (p : Packet) → (is : IsIn classes p) → (arcs : List Arc) → IsDelivered net ends failed d p arcs → ((arc : Arc) → Contains arcs arc → MayBreak kind arc) → Comes chosen q is.place
+  delivered_comes : (failed : FailureSet) (d : DistanceMap) (p : Packet) → (is : IsIn classes p) → (arcs : List Arc) → IsDelivered net ends failed d p arcs →
+      ((arc : Arc) → Contains arcs arc → MayBreak kind arc) → Comes chosen q is.place
   delivered_comes failed d p is arcs delivered may = record {
     enter = (m.enter is.place is.class is.at p is.is_of).0 delivered.enters;
     leave = (m.leave is.place is.class is.at p is.is_of).0 delivered.leaves;
@@ -188,7 +191,8 @@ either_waypoint arcs = elim (cases_Bool (list_any (λ (arc : Arc). arc.row.waypo
     is_off false h = refl
 
 module _ (net : Network) (ends : Ends) (whole : Class) (classes : List Class) (chosen : ℕ → Bool) (q : Question) (m : Mirrors net ends classes chosen q)
-    (parts : (k : ℕ) (class : Class) → slice_get classes k ≡ Some class → LiesIn class whole) (cover : (p : Packet) → IsOf whole p → IsIn classes p) (reads : (k : ℕ) → k < length q.classes → (class : Class) × (slice_get classes k ≡ Some class)) where
+    (parts : (k : ℕ) (class : Class) → slice_get classes k ≡ Some class → LiesIn class whole) (cover : (p : Packet) → IsOf whole p → IsIn classes p)
+    (reads : (k : ℕ) → k < length q.classes → (class : Class) × (slice_get classes k ≡ Some class)) where
   pub kept_off_blocks : q.demand ≡ demand_of kinds.Blocked → IsKeptOff chosen q → IsBlocked net ends whole
   kept_off_blocks demand kept failed d stable p of_p arcs delivered =
       let is : IsIn classes p = cover p of_p in

@@ -50,7 +50,8 @@ use Rattle.policy_encode.proofs.Reaching.{reached_meets, meets_reached}
 use Rattle.policy_encode.proofs.Shapes.{has_edits, of_link, is_graph, ends_of_edits}
 
 -- the question of a policy is one over the network
-pub is_sound : (net : Network) (policies : List Policy) (list : List Edit) (policy : Policy) (q : Question) → IsValid net → IsQuestion net policies list policy q → IsSound (length net.routers) (length net.links) (length list) q
+pub is_sound : (net : Network) (policies : List Policy) (list : List Edit) (policy : Policy) (q : Question) → IsValid net →
+    IsQuestion net policies list policy q → IsSound (length net.routers) (length net.links) (length list) q
 is_sound net policies list policy q valid is =
     let s : IsValidFace net is.source.0 is.source_is.face = valid.faces is.source.0 is.source_is.face is.source_is.at_place in
     let t : IsValidFace net is.target.0 is.target_is.face = valid.faces is.target.0 is.target_is.face is.target_is.at_place in
@@ -63,7 +64,8 @@ is_sound net policies list policy q valid is =
       ends = ends_of_edits net list is.source is.source_is.face is.target_is.face is.classes;
     })
 
-module _ (net : Network) (doc : Document) (list : List Edit) (flags : List Bool) (after : Network) (ed : IsEdited net doc list flags after) (policy : Policy) (member : Contains doc.policies policy) (q : Question) (is : IsQuestion net doc.policies list policy q) where
+module _ (net : Network) (doc : Document) (list : List Edit) (flags : List Bool) (after : Network) (ed : IsEdited net doc list flags after) (policy : Policy)
+    (member : Contains doc.policies policy) (q : Question) (is : IsQuestion net doc.policies list policy q) where
   abbrev chosen : ℕ → Bool
   chosen = chosen_in flags
 
@@ -118,7 +120,8 @@ module _ (net : Network) (doc : Document) (list : List Edit) (flags : List Bool)
   enters : (k : ℕ) (class : Class) → slice_get is.classes k ≡ Some class → (p : Packet) → IsOf class p → Enters after ends p ↔ IsTrue (holds chosen (ends_of asked k).enter)
   unfolding ends source_now
   enters k class at p of_p =
-      let value = if_up is.source_is.face.up (inbound_condition net list class is.source is.source_is.face.list_in) source_now.0.up (ListPermits after source_now.0.list_in p) (ap (λ (f : FaceRow). f.up) source_now.2.same)
+      let value = if_up is.source_is.face.up (inbound_condition net list class is.source is.source_is.face.list_in) source_now.0.up (ListPermits after source_now.0.list_in p)
+      (ap (λ (f : FaceRow). f.up) source_now.2.same)
       (inbound_value net doc list flags after ed class (known k class at) p of_p is.source is.source_is.face is.source_is.at_place source_now.0.list_in source_now.2.list_in) in
       let E : ClassEnds → Type 0 = λ e. IsTrue (holds chosen e.enter) in
       (λ h. subst E (sym (ends_are k class at)) (value.0 h), λ h. value.1 (subst E (ends_are k class at) h))
@@ -126,7 +129,8 @@ module _ (net : Network) (doc : Document) (list : List Edit) (flags : List Bool)
   leaves : (k : ℕ) (class : Class) → slice_get is.classes k ≡ Some class → (p : Packet) → IsOf class p → Leaves after ends p ↔ IsTrue (holds chosen (ends_of asked k).leave)
   unfolding ends target_now
   leaves k class at p of_p =
-      let value = if_up is.target_is.face.up (outbound_condition net list class is.target_is.face.list_out) target_now.0.up (ListPermits after target_now.0.list_out p) (ap (λ (f : FaceRow). f.up) target_now.2.same)
+      let value = if_up is.target_is.face.up (outbound_condition net list class is.target_is.face.list_out) target_now.0.up (ListPermits after target_now.0.list_out p)
+      (ap (λ (f : FaceRow). f.up) target_now.2.same)
       (outbound_value net doc list flags after ed class (known k class at) p of_p is.target_is.face.list_out target_now.0.list_out target_now.2.list_out) in
       let E : ClassEnds → Type 0 = λ e. IsTrue (holds chosen e.leave) in
       (λ h. subst E (sym (ends_are k class at)) (value.0 h), λ h. value.1 (subst E (ends_are k class at) h))

@@ -55,11 +55,13 @@ prices_agree w (e ∷ es) (b ∷ fs) same =
 
 -- questions and policies, one by one
 
-sound_all : (net : Network) (policies some : List Policy) (list : List Edit) (qs : List Question) → IsValid net → AllZip (IsQuestion net policies list) some qs → All (IsSound (length net.routers) (length net.links) (length list)) qs
+sound_all : (net : Network) (policies some : List Policy) (list : List Edit) (qs : List Question) → IsValid net →
+    AllZip (IsQuestion net policies list) some qs → All (IsSound (length net.routers) (length net.links) (length list)) qs
 sound_all net policies [] list [] valid are = All-nil _
 sound_all net policies [] list (q ∷ qs) valid are = absurd are
 sound_all net policies (p ∷ ps) list [] valid are = absurd are
-sound_all net policies (p ∷ ps) list (q ∷ qs) valid are = All-cons (IsSound (length net.routers) (length net.links) (length list)) q qs (is_sound net policies list p q valid are.0) (sound_all net policies ps list qs valid are.1)
+sound_all net policies (p ∷ ps) list (q ∷ qs) valid are = All-cons (IsSound (length net.routers) (length net.links) (length list)) q qs (is_sound net policies list p q valid are.0)
+    (sound_all net policies ps list qs valid are.1)
 
 module _ (net : Network) (doc : Document) (list : List Edit) (flags : List Bool) (after : Network) (ed : IsEdited net doc list flags after) where
   met_all : (some : List Policy) (qs : List Question) → ((p : Policy) → Contains some p → Contains doc.policies p) → AllZip (IsQuestion net doc.policies list) some qs →
@@ -91,7 +93,8 @@ many_weights : (net : Network) (doc : Document) (list : List Edit) (conditions :
 many_weights net doc list conditions are = ap length are.weights ∙ length-map list (weight doc.weights)
 
 pub questions_mirror_networks : QuestionsMirrorNetworks
-questions_mirror_networks net doc list flags after ed policy question member is ends classes are_ends are_classes = question_mirrors net doc list flags after ed policy member question is ends classes are_ends are_classes
+questions_mirror_networks net doc list flags after ed policy question member is ends classes are_ends are_classes =
+    question_mirrors net doc list flags after ed policy member question is ends classes are_ends are_classes
 
 pub questions_are_policies : QuestionsArePolicies
 questions_are_policies net doc list flags after ed policy question member is = question_is_policy net doc list flags after ed policy member question is

@@ -1,6 +1,5 @@
 pub mod Same
 pub mod Chosen
-pub mod Distinct
 pub mod Mirrors
 pub mod Blocking
 pub mod Reaching

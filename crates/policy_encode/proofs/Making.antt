@@ -1,5 +1,6 @@
 -- Steps of the code that makes the network of conditions.
-use Rattle.std.proofs.Common.{◌≡◌, ℕ, ◌+◌, ◌*◌, ◌<◌, ◌≤◌, append_assoc, Bool, true, false, cond, not, Option, Some, None, List, [], ◌∷◌, ◌++◌, length, get_or, take, filter, refl, sym, ◌∙◌, ap, subst, arith}
+use Rattle.std.proofs.Common.{◌≡◌, ℕ, ◌+◌, ◌*◌, ◌<◌, ◌≤◌, append_assoc, Bool, true, false, cond, not, Option, Some}
+use Rattle.std.proofs.Common.{None, List, [], ◌∷◌, ◌++◌, length, get_or, take, filter, refl, sym, ◌∙◌, ap, subst, arith}
 use Rattle.std.specs.Prelude.{All, slice_get, if◌then◌else◌}
 use Rattle.std.specs.List.{flat_map, list_any, AllZip}
 use Rattle.std.specs.Option.{option_map_or}
@@ -36,20 +37,24 @@ front test x y = by (test x)
     by false = refl
 
 -- two arcs, of which those are added that pass
-pub two_added : (test : ConditionArc → Bool) (a b x y : ConditionArc) (p q r : List ConditionArc) → q ≡ p ++ filter test (a ∷ []) → r ≡ q ++ filter test (b ∷ []) → a ≡ x → b ≡ y → r ≡ p ++ filter test (x ∷ y ∷ [])
+pub two_added : (test : ConditionArc → Bool) (a b x y : ConditionArc) (p q r : List ConditionArc) → q ≡ p ++ filter test (a ∷ []) →
+    r ≡ q ++ filter test (b ∷ []) → a ≡ x → b ≡ y → r ≡ p ++ filter test (x ∷ y ∷ [])
 two_added test a b x y p q r one two forth back =
     two ∙ ap (λ l. l ++ filter test (b ∷ [])) one ∙ append_assoc p (filter test (a ∷ [])) (filter test (b ∷ [])) ∙
     ap (λ z. p ++ (filter test (z ∷ []) ++ filter test (b ∷ []))) forth ∙ ap (λ z. p ++ (filter test (x ∷ []) ++ filter test (z ∷ []))) back ∙ ap (λ l. p ++ l) (front test x y)
 
 -- one link more
 pub link_more : (net : Network) (list : List Edit) (to : Prefix) (classes : List Class) (now next : List ConditionArc) (i : ℕ) (row : LinkRow) → i < length net.links → row ≡ get_or net.links i row →
-    now ≡ flat_map (link_arcs net list to classes) (take i (placed net.links)) → next ≡ now ++ link_arcs net list to classes (i, row) → next ≡ flat_map (link_arcs net list to classes) (take (i + 1) (placed net.links))
+    now ≡ flat_map (link_arcs net list to classes) (take i (placed net.links)) → next ≡ now ++ link_arcs net list to classes (i, row) →
+    next ≡ flat_map (link_arcs net list to classes) (take (i + 1) (placed net.links))
 link_more net list to classes now next i row within is was grown =
     pieces_more (link_arcs net list to classes) now next (placed net.links) i (i, row) (omega (arith, within, placed_length net.links)) (placed_at net.links i row within is) was grown
 
 -- the same, where the links are read from a slice of them
-pub link_step : (net : Network) (list : List Edit) (to : Prefix) (classes : List Class) (items : List LinkRow) (d : LinkRow) (now next : List ConditionArc) (i : ℕ) → items ≡ net.links → i < length items →
-    now ≡ flat_map (link_arcs net list to classes) (take i (placed net.links)) → next ≡ now ++ link_arcs net list to classes (i, get_or items i d) → next ≡ flat_map (link_arcs net list to classes) (take (i + 1) (placed net.links))
+pub link_step : (net : Network) (list : List Edit) (to : Prefix) (classes : List Class) (items : List LinkRow) (d : LinkRow) (now next : List ConditionArc) (i : ℕ) → items ≡ net.links →
+    i < length items →
+    now ≡ flat_map (link_arcs net list to classes) (take i (placed net.links)) → next ≡ now ++ link_arcs net list to classes (i, get_or items i d) →
+    next ≡ flat_map (link_arcs net list to classes) (take (i + 1) (placed net.links))
 link_step net list to classes items d now next i same within was grown =
     let low : i < length net.links = omega (arith, within, ap length same) in
     link_more net list to classes now next i (get_or items i d) low (ap (λ (l : List LinkRow). get_or l i d) same ∙ get_or_default net.links i d (get_or items i d) low) was grown
@@ -68,7 +73,8 @@ zip_push R (z ∷ xs) [] x y are one = absurd are
 zip_push R (z ∷ xs) (w ∷ ys) x y are one = (are.0, zip_push R xs ys x y are.1 one)
 
 -- one policy more, and its question
-pub zip_more : {X Y : Type 0} (R : X → Y → Type 0) (xs : List X) (ys next : List Y) (i : ℕ) (x : X) (y : Y) → i < length xs → x ≡ get_or xs i x → AllZip R (take i xs) ys → R x y → next ≡ ys ++ y ∷ [] → AllZip R (take (i + 1) xs) next
+pub zip_more : {X Y : Type 0} (R : X → Y → Type 0) (xs : List X) (ys next : List Y) (i : ℕ) (x : X) (y : Y) → i < length xs → x ≡ get_or xs i x →
+    AllZip R (take i xs) ys → R x y → next ≡ ys ++ y ∷ [] → AllZip R (take (i + 1) xs) next
 zip_more {X} {Y} R xs ys next i x y within is are one grown =
     subst (λ (l : List Y). AllZip R (take (i + 1) xs) l) (sym grown)
     (subst (λ (l : List X). AllZip R l (ys ++ y ∷ [])) (ap (λ (z : X). take i xs ++ z ∷ []) is ∙ sym (take_more xs i x within)) (zip_push R (take i xs) ys x y are one))
@@ -99,21 +105,25 @@ kept_few false false x y = omega arith
 
 link_few : (net : Network) (list : List Edit) (to : Prefix) (classes : List Class) (link : ℕ × LinkRow) → length (link_arcs net list to classes link) ≤ 2
 link_few net list to classes link =
-    or_few (λ (a : FaceRow). option_map_or (λ (b : FaceRow). if is_able net link.1 a b then able_arcs net list to classes link a b else []) (slice_get net.faces link.1.b.0) []) (slice_get net.faces link.1.a.0)
+    or_few (λ (a : FaceRow). option_map_or (λ (b : FaceRow). if is_able net link.1 a b then able_arcs net list to classes link a b else []) (slice_get net.faces link.1.b.0) [])
+    (slice_get net.faces link.1.a.0)
     (λ a. or_few (λ (b : FaceRow). if is_able net link.1 a b then able_arcs net list to classes link a b else []) (slice_get net.faces link.1.b.0)
     (λ b. if_few (is_able net link.1 a b) (able_arcs net list to classes link a b)
-    (let x = arc_over net list to classes link a b true in let y = arc_over net list to classes link a b false in kept_few (not (list_any is_never x.routing)) (not (list_any is_never y.routing)) x y)))
+    (let x = arc_over net list to classes link a b true in let y =
+    arc_over net list to classes link a b false in kept_few (not (list_any is_never x.routing)) (not (list_any is_never y.routing)) x y)))
 
 links_few : (net : Network) (list : List Edit) (to : Prefix) (classes : List Class) (links : List (ℕ × LinkRow)) → length (flat_map (link_arcs net list to classes) links) ≤ 2 * length links
 links_few net list to classes [] = omega arith
 links_few net list to classes (link ∷ links) =
     omega (arith, length-append (link_arcs net list to classes link) (flat_map (link_arcs net list to classes) links), link_few net list to classes link, links_few net list to classes links)
 
-arcs_few : (net : Network) (list : List Edit) (to : Prefix) (classes : List Class) (b : Bool) → length net.links ≤ 1024 → length (if b then flat_map (link_arcs net list to classes) (placed net.links) else []) ≤ 65536
+arcs_few : (net : Network) (list : List Edit) (to : Prefix) (classes : List Class) (b : Bool) → length net.links ≤ 1024 →
+    length (if b then flat_map (link_arcs net list to classes) (placed net.links) else []) ≤ 65536
 arcs_few net list to classes true few = omega (arith, links_few net list to classes (placed net.links), placed_length net.links, few)
 arcs_few net list to classes false few = omega arith
 
-all_few : (net : Network) (policies some : List Policy) (list : List Edit) (qs : List Question) → length net.links ≤ 1024 → AllZip (IsQuestion net policies list) some qs → All (λ q. length q.arcs ≤ 65536) qs
+all_few : (net : Network) (policies some : List Policy) (list : List Edit) (qs : List Question) → length net.links ≤ 1024 →
+    AllZip (IsQuestion net policies list) some qs → All (λ q. length q.arcs ≤ 65536) qs
 all_few net policies [] list [] few are = All-nil _
 all_few net policies [] list (q ∷ qs) few are = absurd are
 all_few net policies (p ∷ ps) list [] few are = absurd are
@@ -128,7 +138,8 @@ same_length R [] (y ∷ ys) are = absurd are
 same_length R (x ∷ xs) [] are = absurd are
 same_length R (x ∷ xs) (y ∷ ys) are = omega (arith, same_length R xs ys are.1)
 
-pub small_net : (net : Network) (doc : Document) (list : List Edit) (conditions : ConditionNet) → IsValid net → length doc.policies ≤ 256 → AreConditions net doc list conditions → IsSmallNet conditions
+pub small_net : (net : Network) (doc : Document) (list : List Edit) (conditions : ConditionNet) → IsValid net → length doc.policies ≤ 256 →
+    AreConditions net doc list conditions → IsSmallNet conditions
 small_net net doc list conditions valid few are =
     let many = same_length (IsQuestion net doc.policies list) doc.policies conditions.questions are.questions in
     record {

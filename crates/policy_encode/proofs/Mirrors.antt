@@ -52,7 +52,8 @@ breaks_counts kinds.Through ca arc same may = ap not (same ∙ may)
 breaks_counts (kinds.Reach k) ca arc same may = refl
 
 -- a part of the arcs makes a graph too
-pub part_is_graph : (nodes : ℕ) (arcs : List ConditionArc) (test : ConditionArc → Bool) → graphs.IsGraph (record { nodes = nodes; arcs = map bare arcs }) → graphs.IsGraph (record { nodes = nodes; arcs = map bare (filter test arcs) })
+pub part_is_graph : (nodes : ℕ) (arcs : List ConditionArc) (test : ConditionArc → Bool) → graphs.IsGraph (record { nodes = nodes; arcs = map bare arcs }) →
+    graphs.IsGraph (record { nodes = nodes; arcs = map bare (filter test arcs) })
 part_is_graph nodes arcs test is = record {
   joined = All-from (graphs.Joins nodes) (map bare (filter test arcs)) (λ a m.
       let r = from_map bare (filter test arcs) a m in

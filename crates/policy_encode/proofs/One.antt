@@ -35,7 +35,8 @@ same_parts net list kind s t f g h k p q cs ds a b c d e =
 one_row : (net : Network) (i j : ℕ) (f g : FaceRow) → i ≡ j → slice_get net.faces i ≡ Some f → slice_get net.faces j ≡ Some g → f ≡ g
 one_row net i j f g same at_i at_j = same_Some f g (sym at_i ∙ ap (λ n. slice_get net.faces n) same ∙ at_j)
 
-one_question : (net : Network) (policies : List Policy) (list : List Edit) (policy : Policy) (x y : Question) → IsValid net → IsQuestion net policies list policy x → IsQuestion net policies list policy y → x ≡ y
+one_question : (net : Network) (policies : List Policy) (list : List Edit) (policy : Policy) (x y : Question) → IsValid net →
+    IsQuestion net policies list policy x → IsQuestion net policies list policy y → x ≡ y
 one_question net policies list policy x y valid a b =
     let source : a.source.0 ≡ b.source.0 = one_host net valid policy.from a.source.0 b.source.0 a.source_is b.source_is in
     let target : a.target.0 ≡ b.target.0 = one_host net valid policy.to a.target.0 b.target.0 a.target_is b.target_is in
@@ -46,7 +47,8 @@ one_question net policies list policy x y valid a b =
     let classes : a.classes ≡ b.classes = (has_one_list net policies policy).1 a.classes b.classes a.classes_are b.classes_are in
     a.is ∙ same_parts net list policy.kind a.source b.source a.source_is.face b.source_is.face a.target_is.face b.target_is.face a.to b.to a.classes b.classes face s t to classes ∙ sym b.is
 
-one_list : (net : Network) (policies some : List Policy) (list : List Edit) (xs ys : List Question) → IsValid net → AllZip (IsQuestion net policies list) some xs → AllZip (IsQuestion net policies list) some ys → xs ≡ ys
+one_list : (net : Network) (policies some : List Policy) (list : List Edit) (xs ys : List Question) → IsValid net →
+    AllZip (IsQuestion net policies list) some xs → AllZip (IsQuestion net policies list) some ys → xs ≡ ys
 one_list net policies [] list [] [] valid a b = refl
 one_list net policies [] list [] (y ∷ ys) valid a b = absurd b
 one_list net policies [] list (x ∷ xs) ys valid a b = absurd a
@@ -95,7 +97,8 @@ some_question net policies list policy has =
       },
     )
 
-some_questions : (net : Network) (policies some : List Policy) (list : List Edit) → All (λ policy. HasEnds net (subject policy)) some → (qs : List Question) × AllZip (IsQuestion net policies list) some qs
+some_questions : (net : Network) (policies some : List Policy) (list : List Edit) → All (λ policy. HasEnds net (subject policy)) some →
+    (qs : List Question) × AllZip (IsQuestion net policies list) some qs
 some_questions net policies [] list has = ([], tt)
 some_questions net policies (p ∷ ps) list has =
     let first = some_question net policies list p (All-head (λ (q : Policy). HasEnds net (subject q)) p ps has) in

@@ -37,16 +37,16 @@ use Rattle.network_edit_laws.proofs.Turning.{turning_classes, staying_packets}
 use Rattle.policy_encode.specs.Answers.{packet_answer, list_condition, inbound_condition, outbound_condition}
 use Rattle.policy_encode.specs.Laws.{IsEdited}
 use Rattle.policy_encode.specs.Turning.{turned}
-use Rattle.network_edit_laws.proofs.Apart.{apart_of}
+use Rattle.edit_list.proofs.Apart.{apart_of}
 use Rattle.network_edit_laws.proofs.Changed.{packet_list_in, in_packet_list, packet_new_in, in_packet_new, new_packets_unbound}
 use Rattle.policy_encode.proofs.Chosen.{chosen_turns, others_stay, either_chosen}
-use Rattle.policy_encode.proofs.Distinct.{edits_differ}
+use Rattle.edit_list.proofs.EditsApart.{all_different}
 use Rattle.network_edit_laws.proofs.NewEntries.{new_permits, new_denies}
 use Rattle.network_edit_laws.proofs.Told.{some_item, no_item, told_by, at_some, both_by}
 
 module _ (net : Network) (doc : Document) (list : List Edit) (flags : List Bool) (after : Network) (ed : IsEdited net doc list flags after) where
   apart : AllPairs (λ (e : Edit) (f : Edit). e ≢ f) list
-  apart = edits_differ net doc list ed.valid ed.edits
+  apart = all_different net doc list ed.valid ed.edits
 
   tell : TellApart net doc.policies ed.edits.classes
   tell = tell_apart net doc.policies ed.edits.classes ed.edits.classes_are
@@ -84,18 +84,21 @@ module _ (net : Network) (doc : Document) (list : List Edit) (flags : List Bool)
               turning_classes was.entries cs (All-from (IsUniform was.entries) cs (λ c m. alike was there c (in_all c m))) class (in_packet_list (chosen_of list flags) id class picked) p of_p ∙
               ap not answer ∙ sym (chosen_turns list apart flags (edits.PacketList id class) (packet_answer net id class) picked)
           | inr unpicked ↦
-              staying_packets was.entries cs p (λ c m of_c. unpicked (packet_list_in (chosen_of list flags) id class (subst (λ (d : Class). Contains cs d) (one_or_none c class (in_all c m) one p of_c of_p) m))) ∙
+              staying_packets was.entries cs p
+              (λ c m of_c. unpicked (packet_list_in (chosen_of list flags) id class (subst (λ (d : Class). Contains cs d) (one_or_none c class (in_all c m) one p of_c of_p) m))) ∙
               answer ∙ sym (others_stay list apart flags (edits.PacketList id class) (packet_answer net id class) unpicked)
         ]
 
     by_place : (was now : ListId) (o : Option PacketList) → slice_get net.packet_lists was.0 ≡ o →
-        IsSomeAnd o (λ l. slice_get after.packet_lists now.0 ≡ Some (edited_packet_list (chosen_of list flags) was.0 l)) → ListPermits after (Some now) p ↔ IsTrue (holds (chosen_in flags) (list_condition net list class was))
+        IsSomeAnd o (λ l. slice_get after.packet_lists now.0 ≡ Some (edited_packet_list (chosen_of list flags) was.0 l)) →
+        ListPermits after (Some now) p ↔ IsTrue (holds (chosen_in flags) (list_condition net list class was))
     by_place was now None at moves = absurd moves
     by_place was now (Some l) at moves =
         both_by (at_some (λ (k : PacketList). IsTrue (permits k.entries p)) (slice_get after.packet_lists now.0) (edited_packet_list (chosen_of list flags) was.0 l) moves)
         (told_by (permits (with_classes l.entries (list_classes (chosen_of list flags) was.0)) p) (holds (chosen_in flags) (list_condition net list class was)) (edited_value was l at))
 
-    bound_value : (was : ListId) (n : Option ListId) → IsSomeAnd n (PacketListMoves net (chosen_of list flags) after was) → ListPermits after n p ↔ IsTrue (holds (chosen_in flags) (list_condition net list class was))
+    bound_value : (was : ListId) (n : Option ListId) → IsSomeAnd n (PacketListMoves net (chosen_of list flags) after was) →
+        ListPermits after n p ↔ IsTrue (holds (chosen_in flags) (list_condition net list class was))
     bound_value was None moves = absurd moves
     bound_value was (Some now) moves = by_place was now (slice_get net.packet_lists was.0) refl moves
 
@@ -103,24 +106,28 @@ module _ (net : Network) (doc : Document) (list : List Edit) (flags : List Bool)
     none_permits n e = subst (λ (o : Option ListId). ListPermits after o p) (sym e) tt
 
     -- what is bound outbound
-    pub outbound_value : (o n : Option ListId) → StaysBound (PacketListMoves net (chosen_of list flags) after) o n → ListPermits after n p ↔ IsTrue (holds (chosen_in flags) (outbound_condition net list class o))
+    pub outbound_value : (o n : Option ListId) → StaysBound (PacketListMoves net (chosen_of list flags) after) o n →
+        ListPermits after n p ↔ IsTrue (holds (chosen_in flags) (outbound_condition net list class o))
     outbound_value None n stays = (λ h. refl, λ h. none_permits n stays)
     outbound_value (Some was) n stays = bound_value was n stays
 
     module _ (face : Face) (row : FaceRow) (at : slice_get net.faces face.0 ≡ Some row) where
-      none_new : IfSome row.list_in (λ id. IsPlace net.packet_lists id.0 × IsTrue row.bound_in) → (id : ListId) → row.list_in ≡ Some id → (c : Class) → Contains (new_classes (chosen_of list flags) face.0) c → ⊥
+      none_new : IfSome row.list_in (λ id. IsPlace net.packet_lists id.0 × IsTrue row.bound_in) → (id : ListId) → row.list_in ≡ Some id → (c : Class) →
+          Contains (new_classes (chosen_of list flags) face.0) c → ⊥
       none_new valid id e c m =
           let bound = subst (λ (o : Option ListId). IfSome o (λ i. IsPlace net.packet_lists i.0 × IsTrue row.bound_in)) e valid in
           let new : Contains (chosen_of list flags) (edits.PacketNew face c) = packet_new_in (chosen_of list flags) face c m in
           false≢true (sym (new_packets_unbound net doc list ed.edits face c row (chosen_listed list flags (edits.PacketNew face c) new) at) ∙ bound.1)
 
-      new_value : (n : Option ListId) → IsSomeAnd n (λ id. IsSomeAnd (slice_get after.packet_lists id.0) (IsNewPacketList net (chosen_of list flags) face)) → ListPermits after n p ↔ IsTrue (holds (chosen_in flags) (turned list (edits.PacketNew face class) true))
+      new_value : (n : Option ListId) → IsSomeAnd n (λ id. IsSomeAnd (slice_get after.packet_lists id.0) (IsNewPacketList net (chosen_of list flags) face)) →
+          ListPermits after n p ↔ IsTrue (holds (chosen_in flags) (turned list (edits.PacketNew face class) true))
       new_value None h = absurd h
       new_value (Some id) h = by (slice_get after.packet_lists id.0) h
         where
           value : permits (new_packet_entries (new_classes (chosen_of list flags) face.0)) p ≡ holds (chosen_in flags) (turned list (edits.PacketNew face class) true)
           value = elim (either_chosen list flags (edits.PacketNew face class) apart) [
-            | inl picked ↦ new_denies p (new_classes (chosen_of list flags) face.0) class (in_packet_new (chosen_of list flags) face class picked) of_p ∙ sym (chosen_turns list apart flags (edits.PacketNew face class) true picked)
+            | inl picked ↦ new_denies p (new_classes (chosen_of list flags) face.0) class (in_packet_new (chosen_of list flags) face class picked) of_p
+                ∙ sym (chosen_turns list apart flags (edits.PacketNew face class) true picked)
             | inr unpicked ↦
                 new_permits p class of_p (new_classes (chosen_of list flags) face.0) (λ c m of_c.
                 let new = packet_new_in (chosen_of list flags) face c m in
@@ -128,15 +135,19 @@ module _ (net : Network) (doc : Document) (list : List Edit) (flags : List Bool)
                 sym (others_stay list apart flags (edits.PacketNew face class) true unpicked)
           ]
 
-          by : (o : Option PacketList) → IsSomeAnd o (IsNewPacketList net (chosen_of list flags) face) → IsSomeAnd o (λ (l : PacketList). IsTrue (permits l.entries p)) ↔ IsTrue (holds (chosen_in flags) (turned list (edits.PacketNew face class) true))
+          by : (o : Option PacketList) → IsSomeAnd o (IsNewPacketList net (chosen_of list flags) face) →
+              IsSomeAnd o (λ (l : PacketList). IsTrue (permits l.entries p)) ↔ IsTrue (holds (chosen_in flags) (turned list (edits.PacketNew face class) true))
           by None k = absurd k
           by (Some l) k = told_by (permits l.entries p) (holds (chosen_in flags) (turned list (edits.PacketNew face class) true)) (ap (λ es. permits es p) k.entries ∙ value)
 
-      by_new : (o n : Option ListId) → row.list_in ≡ o → IfSome row.list_in (λ id. IsPlace net.packet_lists id.0 × IsTrue row.bound_in) → (b : Bool) → is_empty (new_classes (chosen_of list flags) face.0) ≡ b →
-          MatchBool b (StaysBound (PacketListMoves net (chosen_of list flags) after) o n) (IsSomeAnd n (λ id. IsSomeAnd (slice_get after.packet_lists id.0) (IsNewPacketList net (chosen_of list flags) face))) →
+      by_new : (o n : Option ListId) → row.list_in ≡ o → IfSome row.list_in (λ id. IsPlace net.packet_lists id.0 × IsTrue row.bound_in) → (b : Bool) →
+          is_empty (new_classes (chosen_of list flags) face.0) ≡ b →
+          MatchBool b (StaysBound (PacketListMoves net (chosen_of list flags) after) o n)
+          (IsSomeAnd n (λ id. IsSomeAnd (slice_get after.packet_lists id.0) (IsNewPacketList net (chosen_of list flags) face))) →
           ListPermits after n p ↔ IsTrue (holds (chosen_in flags) (inbound_condition net list class face o))
       by_new None n e valid true empty h = (
-        λ k. others_stay list apart flags (edits.PacketNew face class) true (λ picked. no_item (new_classes (chosen_of list flags) face.0) empty class (in_packet_new (chosen_of list flags) face class picked)),
+        λ k. others_stay list apart flags (edits.PacketNew face class) true
+            (λ picked. no_item (new_classes (chosen_of list flags) face.0) empty class (in_packet_new (chosen_of list flags) face class picked)),
         λ k. none_permits n h,
       )
       by_new None n e valid false empty h = new_value n h
@@ -144,7 +155,8 @@ module _ (net : Network) (doc : Document) (list : List Edit) (flags : List Bool)
       by_new (Some was) n e valid false empty h = let c = some_item (new_classes (chosen_of list flags) face.0) empty in absurd (none_new valid was e c.0 c.1)
 
       -- what is bound inbound
-      pub inbound_value : (n : Option ListId) → IsInboundAfter net (chosen_of list flags) after face.0 row.list_in n → ListPermits after n p ↔ IsTrue (holds (chosen_in flags) (inbound_condition net list class face row.list_in))
+      pub inbound_value : (n : Option ListId) → IsInboundAfter net (chosen_of list flags) after face.0 row.list_in n →
+          ListPermits after n p ↔ IsTrue (holds (chosen_in flags) (inbound_condition net list class face row.list_in))
       inbound_value n h =
           let is : IsValidFace net face.0 row = ed.valid.faces face.0 row at in
           by_new row.list_in n refl is.list_in (is_empty (new_classes (chosen_of list flags) face.0)) refl h

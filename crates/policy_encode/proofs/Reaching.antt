@@ -65,8 +65,10 @@ is_on false h = absurd (h refl)
 link_is : (l : ℕ) (link : Link) → l ≡ link.0 → ◌≡◌ {A = Link} (record { 0 = l }) link
 link_is l link same = let link_of : ℕ → Link = λ n. record { 0 = n } in ap link_of same
 
-module _ (net : Network) (valid : IsValid net) (ends : Ends) (whole : Class) (are_ends : AreEnds net whole ends) (classes : List Class) (chosen : ℕ → Bool) (q : Question) (m : Mirrors net ends classes chosen q)
-    (parts : (k : ℕ) (class : Class) → slice_get classes k ≡ Some class → LiesIn class whole) (cover : (p : Packet) → IsOf whole p → IsIn classes p) (reads : (k : ℕ) → k < length q.classes → (class : Class) × (slice_get classes k ≡ Some class)) where
+module _ (net : Network) (valid : IsValid net) (ends : Ends) (whole : Class) (are_ends : AreEnds net whole ends) (classes : List Class) (chosen : ℕ → Bool) (q : Question)
+    (m : Mirrors net ends classes chosen q)
+    (parts : (k : ℕ) (class : Class) → slice_get classes k ≡ Some class → LiesIn class whole) (cover : (p : Packet) → IsOf whole p → IsIn classes p)
+    (reads : (k : ℕ) → k < length q.classes → (class : Class) × (slice_get classes k ≡ Some class)) where
   -- the network's arcs of a way of routed arcs
   record Way (u : ℕ) (way : List shown.Arc) (v : ℕ) : Type 0 where
     arcs : List Arc
@@ -108,7 +110,8 @@ module _ (net : Network) (valid : IsValid net) (ends : Ends) (whole : Class) (ar
           (shows.is_mirror.permits is.place is.class is.at p is.is_of).1 clear)
     ]
 
-    right_paths : AreReached chosen q (k + 1) → (paths : List (List Link)) → (source_router ends ≢ target_router ends → length paths ≡ k + 1) → (source_router ends ≡ target_router ends → length paths ≡ 0) →
+    right_paths : AreReached chosen q (k + 1) → (paths : List (List Link)) → (source_router ends ≢ target_router ends → length paths ≡ k + 1) →
+        (source_router ends ≡ target_router ends → length paths ≡ 0) →
         All (λ links. graphs.IsPath (routed_arcs chosen q) q.source links q.target) paths → AreDistinct (graphs.all_links paths) → IsRightPaths net ends k whole (map path_of paths)
     right_paths r paths apart together each once = record {
       clear = all_clear r;
@@ -153,7 +156,8 @@ module _ (net : Network) (valid : IsValid net) (ends : Ends) (whole : Class) (ar
           ]
 
       -- a cut of the graph is one of the network
-      module _ (cut : HaveSmallCut (routed_arcs chosen q) q.source q.target (k + 1)) (apart : source_router ends ≢ target_router ends) (nodes : (arc : Arc) → IsArc net arc → (tail_router arc < length net.routers) × (head_router arc < length net.routers)) where
+      module _ (cut : HaveSmallCut (routed_arcs chosen q) q.source q.target (k + 1)) (apart : source_router ends ≢ target_router ends)
+          (nodes : (arc : Arc) → IsArc net arc → (tail_router arc < length net.routers) × (head_router arc < length net.routers)) where
         side : List Bool
         side = map cut.side (range_with_len 0 (length net.routers))
 
@@ -184,7 +188,8 @@ module _ (net : Network) (valid : IsValid net) (ends : Ends) (whole : Class) (ar
         has_link l arc of_link leaves =
             let shows : IsMirrored net classes chosen q arc = m.from_arc arc leaves.is_arc leaves.routed in
             let ns = nodes arc leaves.is_arc in
-            let one : Contains (routed_arcs chosen q) (bare shows.ca) = Contains-map bare (filter (is_routed chosen) q.arcs) shows.ca (Contains-filter (is_routed chosen) q.arcs shows.ca shows.one shows.routed) in
+            let one : Contains (routed_arcs chosen q) (bare shows.ca) = Contains-map bare (filter (is_routed chosen) q.arcs) shows.ca
+            (Contains-filter (is_routed chosen) q.arcs shows.ca shows.one shows.routed) in
             let inside : cut.side shows.ca.tail ≡ true = ap cut.side shows.is_mirror.tail ∙ sym (at_router (tail_router arc) ns.0) ∙ leaves.tail in
             let outside : cut.side shows.ca.head ≡ false = off_from (cut.side shows.ca.head) (λ on. leaves.head (at_router (head_router arc) ns.1 ∙ ap cut.side (sym shows.is_mirror.head) ∙ on)) in
             subst (λ (k : Link). Contains cut.links k) (sym (link_is l.0 shows.ca.link (sym of_link ∙ sym shows.is_mirror.link)) ∙ link_is l.0 l refl)
@@ -211,8 +216,9 @@ module _ (net : Network) (valid : IsValid net) (ends : Ends) (whole : Class) (ar
       meets_reached nodes = record {
         ends = passes;
         clear = clear_of;
-        paths = λ apart. elim (paths_or_cut (record { nodes = length net.routers; arcs = routed_arcs chosen q }) (part_is_graph (length net.routers) q.arcs (is_routed chosen) m.graph) q.source q.target (k + 1) m.source_node m.target_node apart) [
-          | inl have ↦ have
-          | inr cut ↦ absurd (no_cut cut (λ e. apart (m.source ∙ e ∙ sym m.target)) nodes)
-        ];
+        paths = λ apart. elim (paths_or_cut (record { nodes = length net.routers; arcs = routed_arcs chosen q })
+            (part_is_graph (length net.routers) q.arcs (is_routed chosen) m.graph) q.source q.target (k + 1) m.source_node m.target_node apart) [
+              | inl have ↦ have
+              | inr cut ↦ absurd (no_cut cut (λ e. apart (m.source ∙ e ∙ sym m.target)) nodes)
+            ];
       }

@@ -7,13 +7,13 @@ use Rattle.traffic_classes.specs.AllClasses.{Key as EntryKey, same_key as same_e
 use Rattle.traffic_classes.proofs.Sameness.{is_same-Decides}
 use Rattle.edit_list.specs.declared.edit_kinds.Edit.{Edit}
 use Rattle.edit_list.specs.declared.edit_kinds.Edit.TheVariants.{Session, RouteList, RouteNew, PacketList, PacketNew}
-use Rattle.policy_encode.specs.Turning.{Key, key_of, same_key, is_same}
+use Rattle.policy_encode.specs.Turning.{NumbersOfEdit, key_of, same_key, is_same}
 
 -- the numbers of an edit's entry, as those of a class stand
-abbrev entry_of : Key → EntryKey
+abbrev entry_of : NumbersOfEdit → EntryKey
 entry_of k = (k.2, k.3, k.4, k.5, k.6, k.7)
 
-record Parts (k l : Key) : Type 0 where
+record Parts (k l : NumbersOfEdit) : Type 0 where
   kind : k.0 ≡ l.0
   place : k.1 ≡ l.1
   entry : same_entry (entry_of k) (entry_of l) ≡ true
@@ -22,7 +22,7 @@ grouped : (x a b c d e f : Bool) → ((((((x && a) && b) && c) && d) && e) && f)
 grouped true a b c d e f = refl
 grouped false a b c d e f = refl
 
-parts_of : (k l : Key) → same_key k l ≡ true → Parts k l
+parts_of : (k l : NumbersOfEdit) → same_key k l ≡ true → Parts k l
 parts_of k l t =
     let first = nat_eq k.0 l.0 && nat_eq k.1 l.1 in
     let two = and_parts first (same_entry (entry_of k) (entry_of l))
@@ -30,7 +30,7 @@ parts_of k l t =
     let front = and_parts (nat_eq k.0 l.0) (nat_eq k.1 l.1) two.0 in
     record { kind = eqb-true k.0 l.0 front.0; place = eqb-true k.1 l.1 front.1; entry = two.1 }
 
-same_itself : (k : Key) → same_key k k ≡ true
+same_itself : (k : NumbersOfEdit) → same_key k k ≡ true
 same_itself k =
     let q : (n : ℕ) → nat_eq n n ≡ true = λ n. eq-eqb n n refl in
     rw (q k.0) (rw (q k.1) (rw (q k.2) (rw (q k.3) (rw (q k.4) (rw (q k.5) (rw (q k.6) (q k.7)))))))

@@ -1,5 +1,6 @@
 -- Sessions in the network after edits, and what their flags and route lists answer.
-use Rattle.std.proofs.Common.{◌≡◌, ◌≢◌, ℕ, ◌<◌, ◌≤◌, ◌==◌, ◌↔◌, ◌&&◌, ◌⊎◌, inl, inr, Bool, true, false, not, IsTrue, Option, Some, None, List, [], ◌∷◌, length, get_or, refl, sym, ◌∙◌, ap, subst, arith}
+use Rattle.std.proofs.Common.{◌≡◌, ◌≢◌, ℕ, ◌<◌, ◌≤◌, ◌==◌, ◌↔◌, ◌&&◌, ◌⊎◌, inl, inr, Bool, true, false, not}
+use Rattle.std.proofs.Common.{IsTrue, Option, Some, None, List, [], ◌∷◌, length, get_or, refl, sym, ◌∙◌, ap, subst, arith}
 use Rattle.std.specs.Prelude.{Contains, AllPairs, All, IfSome, IsSomeAnd, IsFalse, MatchBool, slice_get, find}
 use Rattle.std.specs.List.{position_or_len}
 use Rattle.std.specs.Option.{option_map_or}
@@ -11,7 +12,6 @@ use Rattle.std.proofs.lemmas.Option.{slice_get-get_or, get_or_from_slice_get, sl
 use Rattle.arc_base.specs.declared.place.Face.{Face}
 use Rattle.arc_base.specs.declared.place.ListId.{ListId}
 use Rattle.arc_base.specs.declared.prefix.Prefix.{Prefix}
-use Rattle.arc_base.proofs.Items.{AllPairs-among}
 use Rattle.net_model.specs.declared.lists.RouteList.{RouteList}
 use Rattle.net_model.specs.declared.policies.Document.{Document}
 use Rattle.net_model.specs.declared.rows.FaceRow.{FaceRow}
@@ -22,13 +22,14 @@ use Rattle.net_model.specs.declared.rows.Network.{Network}
 use Rattle.net_model.specs.Decided.{is_open}
 use Rattle.net_model.specs.Lists.{route_permits}
 use Rattle.net_model.specs.Routing.{session_at, IsOpen, FilterPermits, RouteListPermits}
-use Rattle.net_model.specs.Validity.{IsPlace, IsValidSession, AreSessionsApart, FitsProtocol}
+use Rattle.net_model.specs.Validity.{IsPlace, IsValidSession, FitsProtocol}
 use Rattle.net_model.proofs.Readings.{item_at_place}
 use Rattle.condition_formula.specs.Conditions.{holds}
 use Rattle.condition_formula.specs.Laws.{chosen_in}
 use Rattle.edit_list.specs.declared.edit_kinds.Edit.{Edit}
 use Rattle.edit_list.specs.declared.edit_kinds.Edit.TheVariants as edits
-use Rattle.edit_list.specs.After.{with_prefixes, edited_route_list, new_route_entries, turned_if, passive_after, IsNewRouteList, RouteListMoves, StaysBound, IsFilterAfter, IsFaceAfter, IsSessionAfter, IsAfter}
+use Rattle.edit_list.specs.After.{with_prefixes, edited_route_list, new_route_entries, turned_if, passive_after, IsNewRouteList}
+use Rattle.edit_list.specs.After.{RouteListMoves, StaysBound, IsFilterAfter, IsFaceAfter, IsSessionAfter, IsAfter}
 use Rattle.edit_list.specs.Changes.{list_prefixes, new_prefixes, turns_session}
 use Rattle.arc_base.specs.Numbered.{is_empty}
 use Rattle.edit_list.specs.Prices.{chosen_of}
@@ -38,10 +39,10 @@ use Rattle.network_edit_laws.proofs.Turning.{turning_prefixes, staying_prefixes}
 use Rattle.policy_encode.specs.Answers.{session_condition, route_answer, filter_condition, route_condition}
 use Rattle.policy_encode.specs.Laws.{IsEdited}
 use Rattle.policy_encode.specs.Turning.{turned}
-use Rattle.network_edit_laws.proofs.Apart.{alike_of}
+use Rattle.edit_list.proofs.Apart.{one_session}
 use Rattle.network_edit_laws.proofs.Changed.{route_list_in, in_route_list, route_new_in, in_route_new, new_routes_unbound, session_in, in_session}
 use Rattle.policy_encode.proofs.Chosen.{chosen_turns, others_stay, either_chosen}
-use Rattle.policy_encode.proofs.Distinct.{edits_differ}
+use Rattle.edit_list.proofs.EditsApart.{all_different}
 use Rattle.network_edit_laws.proofs.NewEntries.{new_takes, new_refuses}
 use Rattle.network_edit_laws.proofs.Told.{some_item, no_item, told_by, at_some, both_by}
 
@@ -113,13 +114,7 @@ module _ (net : Network) (chosen : List Edit) (after : Network) (is : IsAfter ne
 
 module _ (net : Network) (doc : Document) (list : List Edit) (flags : List Bool) (after : Network) (ed : IsEdited net doc list flags after) where
   apart : AllPairs (λ (e : Edit) (f : Edit). e ≢ f) list
-  apart = edits_differ net doc list ed.valid ed.edits
-
-  one_session : (s t : SessionRow) → Contains net.sessions s → Contains net.sessions t → s.face.0 ≡ t.face.0 → s ≡ t
-  one_session s t in_s in_t same =
-      alike_of (λ (x : SessionRow). x.face.0) net.sessions
-      (AllPairs-among (AreSessionsApart net) (λ (x : SessionRow) (y : SessionRow). x.face.0 ≢ y.face.0) net.sessions (λ x y in_x in_y differ. differ.0) ed.valid.sessions_apart)
-      s t in_s in_t same
+  apart = all_different net doc list ed.valid ed.edits
 
   module _ (to : Prefix) where
     edited_value : (id : ListId) (was : RouteList) → slice_get net.route_lists id.0 ≡ Some was →
@@ -137,51 +132,62 @@ module _ (net : Network) (doc : Document) (list : List Edit) (flags : List Bool)
         ]
 
     by_place : (was now : ListId) (o : Option RouteList) → slice_get net.route_lists was.0 ≡ o →
-        IsSomeAnd o (λ l. slice_get after.route_lists now.0 ≡ Some (edited_route_list (chosen_of list flags) was.0 l)) → RouteListPermits after (Some now) to ↔ IsTrue (holds (chosen_in flags) (turned list (edits.RouteList was to) (route_answer net was to)))
+        IsSomeAnd o (λ l. slice_get after.route_lists now.0 ≡ Some (edited_route_list (chosen_of list flags) was.0 l)) →
+        RouteListPermits after (Some now) to ↔ IsTrue (holds (chosen_in flags) (turned list (edits.RouteList was to) (route_answer net was to)))
     by_place was now None at moves = absurd moves
     by_place was now (Some l) at moves =
         both_by (at_some (λ (k : RouteList). IsTrue (route_permits k.entries to)) (slice_get after.route_lists now.0) (edited_route_list (chosen_of list flags) was.0 l) moves)
-        (told_by (route_permits (with_prefixes l.entries (list_prefixes (chosen_of list flags) was.0)) to) (holds (chosen_in flags) (turned list (edits.RouteList was to) (route_answer net was to))) (edited_value was l at))
+        (told_by (route_permits (with_prefixes l.entries (list_prefixes (chosen_of list flags) was.0)) to)
+        (holds (chosen_in flags) (turned list (edits.RouteList was to) (route_answer net was to))) (edited_value was l at))
 
-    bound_value : (was : ListId) (n : Option ListId) → IsSomeAnd n (RouteListMoves net (chosen_of list flags) after was) → RouteListPermits after n to ↔ IsTrue (holds (chosen_in flags) (turned list (edits.RouteList was to) (route_answer net was to)))
+    bound_value : (was : ListId) (n : Option ListId) → IsSomeAnd n (RouteListMoves net (chosen_of list flags) after was) →
+        RouteListPermits after n to ↔ IsTrue (holds (chosen_in flags) (turned list (edits.RouteList was to) (route_answer net was to)))
     bound_value was None moves = absurd moves
     bound_value was (Some now) moves = by_place was now (slice_get net.route_lists was.0) refl moves
 
     module _ (s : SessionRow) (stands : Contains net.sessions s) where
-      none_new : IfSome s.filter (λ id. IsPlace net.route_lists id.0 × IsTrue s.bound) → (id : ListId) → s.filter ≡ Some id → (p : Prefix) → Contains (new_prefixes (chosen_of list flags) s.face.0) p → ⊥
+      none_new : IfSome s.filter (λ id. IsPlace net.route_lists id.0 × IsTrue s.bound) → (id : ListId) → s.filter ≡ Some id → (p : Prefix) →
+          Contains (new_prefixes (chosen_of list flags) s.face.0) p → ⊥
       none_new valid id e p m =
           let bound = subst (λ (o : Option ListId). IfSome o (λ i. IsPlace net.route_lists i.0 × IsTrue s.bound)) e valid in
           let new : Contains (chosen_of list flags) (edits.RouteNew s.face p) = route_new_in (chosen_of list flags) s.face p m in
           let t = new_routes_unbound net doc list ed.edits s.face p (chosen_listed list flags (edits.RouteNew s.face p) new) in
-          let same : t.0 ≡ s = one_session t.0 s t.1 stands (ap (λ (f : Face). f.0) t.2) in
+          let same : t.0 ≡ s = one_session net ed.valid t.0 s t.1 stands (ap (λ (f : Face). f.0) t.2) in
           false≢true (sym t.3 ∙ ap (λ (x : SessionRow). x.bound) same ∙ bound.1)
 
       new_answer : route_permits (new_route_entries (new_prefixes (chosen_of list flags) s.face.0)) to ≡ holds (chosen_in flags) (turned list (edits.RouteNew s.face to) true)
       new_answer = elim (either_chosen list flags (edits.RouteNew s.face to) apart) [
-        | inl picked ↦ new_refuses to (new_prefixes (chosen_of list flags) s.face.0) (in_route_new (chosen_of list flags) s.face to picked) ∙ sym (chosen_turns list apart flags (edits.RouteNew s.face to) true picked)
-        | inr unpicked ↦ new_takes to (new_prefixes (chosen_of list flags) s.face.0) (λ m. unpicked (route_new_in (chosen_of list flags) s.face to m)) ∙ sym (others_stay list apart flags (edits.RouteNew s.face to) true unpicked)
+        | inl picked ↦ new_refuses to (new_prefixes (chosen_of list flags) s.face.0) (in_route_new (chosen_of list flags) s.face to picked)
+            ∙ sym (chosen_turns list apart flags (edits.RouteNew s.face to) true picked)
+        | inr unpicked ↦ new_takes to (new_prefixes (chosen_of list flags) s.face.0) (λ m. unpicked (route_new_in (chosen_of list flags) s.face to m))
+            ∙ sym (others_stay list apart flags (edits.RouteNew s.face to) true unpicked)
       ]
 
-      new_list : (o : Option RouteList) → IsSomeAnd o (IsNewRouteList net (chosen_of list flags) s.face) → IsSomeAnd o (λ (l : RouteList). IsTrue (route_permits l.entries to)) ↔ IsTrue (holds (chosen_in flags) (turned list (edits.RouteNew s.face to) true))
+      new_list : (o : Option RouteList) → IsSomeAnd o (IsNewRouteList net (chosen_of list flags) s.face) →
+          IsSomeAnd o (λ (l : RouteList). IsTrue (route_permits l.entries to)) ↔ IsTrue (holds (chosen_in flags) (turned list (edits.RouteNew s.face to) true))
       new_list None h = absurd h
       new_list (Some l) h = told_by (route_permits l.entries to) (holds (chosen_in flags) (turned list (edits.RouteNew s.face to) true)) (ap (λ es. route_permits es to) h.entries ∙ new_answer)
 
-      new_value : (n : Option ListId) → IsSomeAnd n (λ id. IsSomeAnd (slice_get after.route_lists id.0) (IsNewRouteList net (chosen_of list flags) s.face)) → RouteListPermits after n to ↔ IsTrue (holds (chosen_in flags) (turned list (edits.RouteNew s.face to) true))
+      new_value : (n : Option ListId) → IsSomeAnd n (λ id. IsSomeAnd (slice_get after.route_lists id.0) (IsNewRouteList net (chosen_of list flags) s.face)) →
+          RouteListPermits after n to ↔ IsTrue (holds (chosen_in flags) (turned list (edits.RouteNew s.face to) true))
       new_value None h = absurd h
       new_value (Some id) h = new_list (slice_get after.route_lists id.0) h
 
       by_new : (o n : Option ListId) → s.filter ≡ o → IfSome s.filter (λ id. IsPlace net.route_lists id.0 × IsTrue s.bound) → (b : Bool) → is_empty (new_prefixes (chosen_of list flags) s.face.0) ≡ b →
-          MatchBool b (StaysBound (RouteListMoves net (chosen_of list flags) after) o n) (IsSomeAnd n (λ id. IsSomeAnd (slice_get after.route_lists id.0) (IsNewRouteList net (chosen_of list flags) s.face))) →
+          MatchBool b (StaysBound (RouteListMoves net (chosen_of list flags) after) o n)
+          (IsSomeAnd n (λ id. IsSomeAnd (slice_get after.route_lists id.0) (IsNewRouteList net (chosen_of list flags) s.face))) →
           RouteListPermits after n to ↔ IsTrue (holds (chosen_in flags) (filter_condition net list to s.face o))
       by_new None n e valid true empty h = (
-        λ k. others_stay list apart flags (edits.RouteNew s.face to) true (λ picked. no_item (new_prefixes (chosen_of list flags) s.face.0) empty to (in_route_new (chosen_of list flags) s.face to picked)),
+        λ k. others_stay list apart flags (edits.RouteNew s.face to) true
+            (λ picked. no_item (new_prefixes (chosen_of list flags) s.face.0) empty to (in_route_new (chosen_of list flags) s.face to picked)),
         λ k. subst (λ (p : Option ListId). RouteListPermits after p to) (sym h) tt,
       )
       by_new None n e valid false empty h = new_value n h
       by_new (Some was) n e valid true empty h = bound_value was n h
       by_new (Some was) n e valid false empty h = let p = some_item (new_prefixes (chosen_of list flags) s.face.0) empty in absurd (none_new valid was e p.0 p.1)
 
-      filter_value : (n : Option ListId) → IsFilterAfter net (chosen_of list flags) after s.face s.filter n → RouteListPermits after n to ↔ IsTrue (holds (chosen_in flags) (filter_condition net list to s.face s.filter))
+      filter_value : (n : Option ListId) → IsFilterAfter net (chosen_of list flags) after s.face s.filter n →
+          RouteListPermits after n to ↔ IsTrue (holds (chosen_in flags) (filter_condition net list to s.face s.filter))
       filter_value n h =
           let is : IsValidSession net s = All-contains (IsValidSession net) net.sessions s ed.valid.sessions stands in
           by_new s.filter n refl is.filter (is_empty (new_prefixes (chosen_of list flags) s.face.0)) refl h
@@ -198,7 +204,8 @@ module _ (net : Network) (doc : Document) (list : List Edit) (flags : List Bool)
           let value = filter_value has.was stands has.now.filter has.is.filter in
           let C : Face → Option SessionRow → Type 0 = λ f o. IsTrue (holds (chosen_in flags) (route_condition net list to f o)) in
           let same : ◌≡◌ {A = Face} has.was.face face = let face_of : ℕ → Face = λ n. record { 0 = n } in ap face_of has.at_face in (
-            λ h. subst (λ (o : Option SessionRow). C face o) (sym has.was_at) (subst (λ (f : Face). C f (Some has.was)) same (value.0 (subst (λ (o : Option SessionRow). FilterPermits after o to) has.now_at h))),
+            λ h. subst (λ (o : Option SessionRow). C face o) (sym has.was_at)
+                (subst (λ (f : Face). C f (Some has.was)) same (value.0 (subst (λ (o : Option SessionRow). FilterPermits after o to) has.now_at h))),
             λ h. subst (λ (o : Option SessionRow). FilterPermits after o to) (sym has.now_at)
                 (value.1 (subst (λ (f : Face). C f (Some has.was)) (sym same) (subst (λ (o : Option SessionRow). C face o) has.was_at h))),
           )
@@ -227,7 +234,8 @@ module _ (net : Network) (doc : Document) (list : List Edit) (flags : List Bool)
   not_true false e = refl
 
   -- whether an interface of an able link talks to its neighbour
-  pub open_value : (face : Face) (was now : FaceRow) → IsFaceAfter net (chosen_of list flags) after face.0 was now → slice_get net.faces face.0 ≡ Some was → (net.protocol ≡ Bgp → session_at net face ≡ None → ⊥) →
+  pub open_value : (face : Face) (was now : FaceRow) → IsFaceAfter net (chosen_of list flags) after face.0 was now → slice_get net.faces face.0 ≡ Some was →
+      (net.protocol ≡ Bgp → session_at net face ≡ None → ⊥) →
       IsOpen (session_at after face) now ↔ IsTrue (holds (chosen_in flags) (session_condition net list face was))
   open_value face was now row at able = by net.protocol refl ed.valid.protocol row.passive
     where
@@ -243,13 +251,16 @@ module _ (net : Network) (doc : Document) (list : List Edit) (flags : List Bool)
             },
           )
 
-      by_bgp : now.passive ≡ was.passive → IsFalse was.passive → (has : HasSession net (chosen_of list flags) after face) → IsOpen (session_at after face) now ↔ IsTrue (holds (chosen_in flags) (session_condition net list face was))
+      by_bgp : now.passive ≡ was.passive → IsFalse was.passive → (has : HasSession net (chosen_of list flags) after face) →
+          IsOpen (session_at after face) now ↔ IsTrue (holds (chosen_in flags) (session_condition net list face was))
       by_bgp passive active has =
-          let down : has.now.down ≡ turned_if (turns_session (chosen_of list flags) face.0) has.was.down = has.is.down ∙ ap (λ n. turned_if (turns_session (chosen_of list flags) n) has.was.down) has.at_face in
+          let down : has.now.down ≡ turned_if (turns_session (chosen_of list flags) face.0) has.was.down =
+          has.is.down ∙ ap (λ n. turned_if (turns_session (chosen_of list flags) n) has.was.down) has.at_face in
           let turned_down : not has.now.down ≡ holds (chosen_in flags) (turned list (edits.Session face) (not has.was.down && true)) = turn_of face has.was.down has.now.down down true refl in
           let with_true : (b : Bool) → (b && true) ≡ b = λ b. elim b as (λ c. (c && true) ≡ c) [ true ↦ refl | false ↦ refl ] in
           let open_is : is_open (Some has.was) was ≡ (not has.was.down && true) = ap (λ b. not b && not has.was.down) active ∙ sym (with_true (not has.was.down)) in
-          let value : not has.now.down ≡ holds (chosen_in flags) (turned list (edits.Session face) (is_open (Some has.was) was)) = turned_down ∙ ap (λ b. holds (chosen_in flags) (turned list (edits.Session face) b)) (sym open_is) in
+          let value : not has.now.down ≡ holds (chosen_in flags) (turned list (edits.Session face) (is_open (Some has.was) was)) =
+          turned_down ∙ ap (λ b. holds (chosen_in flags) (turned list (edits.Session face) b)) (sym open_is) in
           let D : Option SessionRow → Type 0 = λ o. IsTrue (holds (chosen_in flags) (turned list (edits.Session face) (is_open o was))) in
           let E : Option SessionRow → Type 0 = λ o. IfSome o (λ s. IsFalse s.down) in (
             λ h. subst D (sym has.was_at) (let d : IsFalse has.now.down = subst E has.now_at h.not_down in sym value ∙ ap not d),

@@ -35,7 +35,8 @@ use Rattle.arc_base.specs.Numbered.{placed}
 use Rattle.policy_encode.specs.Answers.{session_condition, filter_condition, route_answer, route_condition, list_condition, packet_answer, inbound_condition, outbound_condition, arc_lists, class_ends}
 use Rattle.policy_encode.specs.Questions.{is_able, is_never, tail_row, head_row, arc_over, able_arcs, link_arcs, arcs_to}
 use Rattle.policy_encode.specs.Turning.{condition_at, place_of, turned}
-use Rattle.network_edit_laws.proofs.Apart.{AllPairs-flat_map, places_apart}
+use Rattle.edit_list.proofs.Apart.{pieces_apart}
+use Rattle.edit_list.proofs.NewListFacts.{placed_apart}
 use Rattle.policy_encode.proofs.Arcs.{Comes, comes_from}
 use Rattle.policy_encode.proofs.Chosen.{some_place}
 
@@ -86,8 +87,12 @@ module _ (net : Network) (list : List Edit) where
       let ends : ClassEnds = slice_index_or (map (class_ends net list source source_row target) classes) k (record { enter = Always; leave = Always }) in
       IsOfEdits (length list) ends.enter × IsOfEdits (length list) ends.leave
   ends_of_edits source source_row target classes k =
-      mapped_of (λ (e : ClassEnds). IsOfEdits (length list) e.enter × IsOfEdits (length list) e.leave) (class_ends net list source source_row target) classes k (record { enter = Always; leave = Always })
-      (λ class. (if_of source_row.up (inbound_condition net list class source source_row.list_in) (inbound_of class source source_row.list_in), if_of target.up (outbound_condition net list class target.list_out) (outbound_of class target.list_out)))
+      mapped_of (λ (e : ClassEnds). IsOfEdits (length list) e.enter × IsOfEdits (length list) e.leave) (class_ends net list source source_row target) classes k
+      (record { enter = Always; leave = Always })
+      (λ class. (
+        if_of source_row.up (inbound_condition net list class source source_row.list_in) (inbound_of class source source_row.list_in),
+        if_of target.up (outbound_condition net list class target.list_out) (outbound_of class target.list_out),
+      ))
       (tt, tt)
 
   module _ (to : Prefix) (classes : List Class) where
@@ -101,7 +106,8 @@ module _ (net : Network) (list : List Edit) where
         let of_y : IsOfEdits (length list) y = turned_of list (edits.Session from.row.b) (is_open (session_at net from.row.b) from.b) in
         let of_z : IsOfEdits (length list) z = route_of to (tail_end from.row from.from_a) (session_at net (tail_end from.row from.from_a)) in
         subst (HasEdits (length list)) from.is (record {
-          routing = All-cons (IsOfEdits (length list)) x (y ∷ z ∷ []) of_x (All-cons (IsOfEdits (length list)) y (z ∷ []) of_y (All-cons (IsOfEdits (length list)) z [] of_z (All-nil (IsOfEdits (length list)))));
+          routing = All-cons (IsOfEdits (length list)) x (y ∷ z ∷ []) of_x
+              (All-cons (IsOfEdits (length list)) y (z ∷ []) of_y (All-cons (IsOfEdits (length list)) z [] of_z (All-nil (IsOfEdits (length list)))));
           lists = λ k. mapped_of (λ (l : ArcLists). IsOfEdits (length list) l.outbound × IsOfEdits (length list) l.inbound)
               (arc_lists net list (tail_row from.a from.b from.from_a) (head_end from.row from.from_a) (head_row from.a from.b from.from_a)) classes k (record { outbound = Always; inbound = Always })
               (λ class. (outbound_of class (tail_row from.a from.b from.from_a).list_out, inbound_of class (head_end from.row from.from_a) (head_row from.a from.b from.from_a).list_in)) (tt, tt);
@@ -115,7 +121,8 @@ module _ (net : Network) (list : List Edit) where
     -- the graph
 
     module _ (valid : IsValid net) where
-      joins_rows : (a b : FaceRow) → a.router.0 < length net.routers → b.router.0 < length net.routers → a.router.0 ≢ b.router.0 → (link : ℕ × LinkRow) (from_a : Bool) → graphs.Joins (length net.routers) (bare (arc_over net list to classes link a b from_a))
+      joins_rows : (a b : FaceRow) → a.router.0 < length net.routers → b.router.0 < length net.routers → a.router.0 ≢ b.router.0 →
+          (link : ℕ × LinkRow) (from_a : Bool) → graphs.Joins (length net.routers) (bare (arc_over net list to classes link a b from_a))
       joins_rows a b in_a in_b apart link true = record { tail_node = in_a; head_node = in_b; apart = apart }
       joins_rows a b in_a in_b apart link false = record { tail_node = in_b; head_node = in_a; apart = λ e. apart (sym e) }
 
@@ -128,7 +135,8 @@ module _ (net : Network) (list : List Edit) where
           let same_a : is.a ≡ from.a = same_Some is.a from.a (sym is.a_is ∙ from.at_a) in
           let same_b : is.b ≡ from.b = same_Some is.b from.b (sym is.b_is ∙ from.at_b) in
           subst (λ (x : ConditionArc). graphs.Joins (length net.routers) (bare x)) from.is
-          (joins_rows from.a from.b fa.router fb.router (λ e. is.routers (ap (λ (f : FaceRow). f.router.0) same_a ∙ e ∙ sym (ap (λ (f : FaceRow). f.router.0) same_b))) (from.link, from.row) from.from_a)
+          (joins_rows from.a from.b fa.router fb.router (λ e. is.routers (ap (λ (f : FaceRow). f.router.0) same_a ∙ e ∙ sym (ap (λ (f : FaceRow). f.router.0) same_b)))
+          (from.link, from.row) from.from_a)
 
       abbrev Share : ConditionArc → ConditionArc → Type 0
       Share x y = graphs.MayShare (bare x) (bare y)
@@ -150,7 +158,8 @@ module _ (net : Network) (list : List Edit) where
 
       link_pairs : (link : ℕ × LinkRow) → AllPairs Share (link_arcs net list to classes link)
       link_pairs link =
-          or_pairs (λ (a : FaceRow). option_map_or (λ (b : FaceRow). if is_able net link.1 a b then able_arcs net list to classes link a b else []) (slice_get net.faces link.1.b.0) []) (slice_get net.faces link.1.a.0)
+          or_pairs (λ (a : FaceRow). option_map_or (λ (b : FaceRow). if is_able net link.1 a b then able_arcs net list to classes link a b else []) (slice_get net.faces link.1.b.0) [])
+          (slice_get net.faces link.1.a.0)
           (λ a. or_pairs (λ (b : FaceRow). if is_able net link.1 a b then able_arcs net list to classes link a b else []) (slice_get net.faces link.1.b.0)
           (λ b. if_pairs (is_able net link.1 a b) (able_arcs net list to classes link a b) (two_pairs link a b)))
 
@@ -164,7 +173,8 @@ module _ (net : Network) (list : List Edit) where
 
       number_of : (link : ℕ × LinkRow) (ca : ConditionArc) → Contains (link_arcs net list to classes link) ca → ca.link.0 ≡ link.0
       number_of link ca m =
-          let at_a = in_or (λ (a : FaceRow). option_map_or (λ (b : FaceRow). if is_able net link.1 a b then able_arcs net list to classes link a b else []) (slice_get net.faces link.1.b.0) []) (slice_get net.faces link.1.a.0) ca m in
+          let at_a = in_or (λ (a : FaceRow). option_map_or (λ (b : FaceRow). if is_able net link.1 a b then able_arcs net list to classes link a b else [])
+          (slice_get net.faces link.1.b.0) []) (slice_get net.faces link.1.a.0) ca m in
           let at_b = in_or (λ (b : FaceRow). if is_able net link.1 at_a.0 b then able_arcs net list to classes link at_a.0 b else []) (slice_get net.faces link.1.b.0) ca at_a.1 in
           let able = in_if (is_able net link.1 at_a.0 at_b.0) (able_arcs net list to classes link at_a.0 at_b.0) ca at_b.1 in
           let x = arc_over net list to classes link at_a.0 at_b.0 true in
@@ -180,12 +190,13 @@ module _ (net : Network) (list : List Edit) where
 
       all_pairs : AllPairs Share (flat_map (link_arcs net list to classes) (placed net.links))
       all_pairs =
-          AllPairs-flat_map Share (link_arcs net list to classes) (placed net.links) (λ link one. link_pairs link)
-          (AllPairs-among (λ (s : ℕ × LinkRow) (t : ℕ × LinkRow). s.0 ≢ t.0) (λ (s : ℕ × LinkRow) (t : ℕ × LinkRow). (a b : ConditionArc) → Contains (link_arcs net list to classes s) a → Contains (link_arcs net list to classes t) b → Share a b) (placed net.links)
+          pieces_apart Share (link_arcs net list to classes) (placed net.links)
+          (AllPairs-among (λ (s : ℕ × LinkRow) (t : ℕ × LinkRow). s.0 ≢ t.0)
+          (λ (s : ℕ × LinkRow) (t : ℕ × LinkRow). (a b : ConditionArc) → Contains (link_arcs net list to classes s) a → Contains (link_arcs net list to classes t) b → Share a b) (placed net.links)
           (λ s t in_s in_t differ a b in_a in_b.
           let no : a.link ≡ b.link → ⊥ = λ e. differ (sym (number_of s a in_a) ∙ ap (λ (l : Link). l.0) e ∙ number_of t b in_b) in
           record { forth = λ e. absurd (no e); back = λ e. absurd (no e) })
-          (places_apart net.links))
+          (placed_apart net.links)) (λ link one. link_pairs link)
 
       pub is_graph : graphs.IsGraph (record { nodes = length net.routers; arcs = map bare (arcs_to net list to classes) })
       is_graph = record {

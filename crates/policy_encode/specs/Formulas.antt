@@ -42,9 +42,10 @@ PassesLiterals net doc list bound count =
     HasConditions net doc list (λ conditions. HasTooManyLiterals conditions bound count)
 
 -- the fault names the limit that the formula passes, or is out of memory
-abbrev pub IsFaultOf : Network → Document → List Edit → ℕ → EditFault → Type 0
-IsFaultOf net doc list bound (Limit limits.Variables count) =
+abbrev pub IsFaultOfFormula : Network → Document → List Edit → ℕ → EditFault → Type 0
+IsFaultOfFormula net doc list bound (Limit limits.Variables count) =
     PassesVariables net doc list bound count
-IsFaultOf net doc list bound (Limit limits.Literals count) = PassesLiterals net doc list bound count
-IsFaultOf net doc list bound (Limit other count) = ⊥
-IsFaultOf net doc list bound Memory = Unit {0}
+IsFaultOfFormula net doc list bound (Limit limits.Literals count) =
+    PassesLiterals net doc list bound count
+IsFaultOfFormula net doc list bound (Limit other count) = ⊥
+IsFaultOfFormula net doc list bound Memory = Unit {0}

@@ -10,11 +10,11 @@ use Rattle.edit_list.specs.declared.edit_kinds.Edit.TheVariants as edits
 
 -- the numbers that make an edit: its kind, the place where it acts, and of its entry the prefix, or
 -- the two prefixes and the range of services
-abbrev pub Key : Type 0
-Key = ℕ × ℕ × ℕ × ℕ × ℕ × ℕ × ℕ × ℕ
+abbrev pub NumbersOfEdit : Type 0
+NumbersOfEdit = ℕ × ℕ × ℕ × ℕ × ℕ × ℕ × ℕ × ℕ
 
 -- those of an edit of this kind that acts at this place, with an entry for the class
-abbrev pub packet_key : ℕ → ℕ → Class → Key
+abbrev pub packet_key : ℕ → ℕ → Class → NumbersOfEdit
 packet_key kind place class = (
   kind,
   place,
@@ -27,7 +27,7 @@ packet_key kind place class = (
 )
 
 -- the numbers of the edit
-abbrev pub key_of : Edit → Key
+abbrev pub key_of : Edit → NumbersOfEdit
 key_of (edits.Session face) = (0, face.0, 0, 0, 0, 0, 0, 0)
 key_of (edits.RouteList list to) = (1, list.0, to.addr, to.len, 0, 0, 0, 0)
 key_of (edits.RouteNew face to) = (2, face.0, to.addr, to.len, 0, 0, 0, 0)
@@ -35,7 +35,7 @@ key_of (edits.PacketList list class) = packet_key 3 list.0 class
 key_of (edits.PacketNew face class) = packet_key 4 face.0 class
 
 -- whether the eight numbers of the one are those of the other
-abbrev pub same_key : Key → Key → Bool
+abbrev pub same_key : NumbersOfEdit → NumbersOfEdit → Bool
 same_key k l =
     ((((((nat_eq k.0 l.0 && nat_eq k.1 l.1) && nat_eq k.2 l.2) && nat_eq k.3 l.3) &&
     nat_eq k.4 l.4) && nat_eq k.5 l.5) && nat_eq k.6 l.6) && nat_eq k.7 l.7

@@ -1,12 +1,12 @@
 //! The conditions for sessions, routes and packets.
-ghost use Rattle.std.specs.Prelude.{◌≡◌, ◌<◌, ◌^◌, List, length};
-ghost use Rattle.std.specs.Option.{option_copied};
 ghost use Rattle.edit_list.specs.declared.edit_kinds.Edit.{Edit as AnyEdit};
 ghost use Rattle.policy_encode.specs.Answers.{session_condition, route_answer};
 ghost use Rattle.policy_encode.specs.Answers.{filter_condition, route_condition, packet_answer};
 ghost use Rattle.policy_encode.specs.Answers.{list_condition, inbound_condition};
 ghost use Rattle.policy_encode.specs.Answers.{outbound_condition, arc_lists, class_ends};
 ghost use Rattle.policy_encode.specs.Finding.{IsIndexOf};
+ghost use Rattle.std.specs.Option.{option_copied};
+ghost use Rattle.std.specs.Prelude.{◌≡◌, ◌<◌, ◌^◌, List, length};
 
 use crate::edit_index::EditIndex;
 use arc_base::{Face, ListId, Prefix};

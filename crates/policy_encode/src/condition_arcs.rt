@@ -1,12 +1,12 @@
 //! The arcs to a host network, each with its conditions.
-ghost use Rattle.std.specs.Prelude.{◌≡◌, ◌<◌, ◌^◌, ◌++◌, ◌∷◌, [], not, filter, map, List, length};
-ghost use Rattle.std.specs.Prelude.{IfOk, OnOk};
-ghost use Rattle.std.specs.List.{list_any};
 ghost use Rattle.edit_list.specs.declared.edit_kinds.Edit.{Edit as AnyEdit};
 ghost use Rattle.policy_encode.specs.Answers.{arc_lists};
+ghost use Rattle.policy_encode.specs.Finding.{IsIndexOf};
 ghost use Rattle.policy_encode.specs.Questions.{is_able, is_never, routing_of, arc_over};
 ghost use Rattle.policy_encode.specs.Questions.{able_arcs, link_arcs, arcs_to};
-ghost use Rattle.policy_encode.specs.Finding.{IsIndexOf};
+ghost use Rattle.std.specs.List.{list_any};
+ghost use Rattle.std.specs.Prelude.{◌≡◌, ◌<◌, ◌^◌, ◌++◌, ◌∷◌, [], not, filter, map, List, length};
+ghost use Rattle.std.specs.Prelude.{IfOk, OnOk};
 
 use crate::answers::{arc_lists, route_condition, session_condition};
 use crate::edit_index::EditIndex;

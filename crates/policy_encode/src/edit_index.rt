@@ -1,8 +1,8 @@
 //! The places of edits in their list.
-ghost use Rattle.std.specs.Prelude.{◌≡◌, ◌≢◌, ◌<◌, ◌^◌, List, length, AllPairs, IfOk};
 ghost use Rattle.edit_list.specs.declared.edit_kinds.Edit.{Edit as AnyEdit};
-ghost use Rattle.policy_encode.specs.Turning.{key_of, packet_key, place_of, condition_at, turned};
 ghost use Rattle.policy_encode.specs.Finding.{IsIndexOf};
+ghost use Rattle.policy_encode.specs.Turning.{key_of, packet_key, place_of, condition_at, turned};
+ghost use Rattle.std.specs.Prelude.{◌≡◌, ◌≢◌, ◌<◌, ◌^◌, List, length, AllPairs, IfOk};
 
 use arc_base::Memory;
 use condition_formula::Condition;

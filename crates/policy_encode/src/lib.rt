@@ -11,5 +11,5 @@ mod encoding;
 pub mod laws;
 mod questions;
 
-pub use condition_formula::{Encoded, model_edits};
-pub use encoding::encode;
+pub use condition_formula::{PackedEncoding, model_edits};
+pub use encoding::{Encoded, encode, encode_packed};

@@ -1,13 +1,13 @@
 //! The questions of policies.
-ghost use Rattle.std.specs.Prelude.{◌≡◌, ◌<◌, ◌^◌, map, List, length, IfOk};
 ghost use Rattle.edit_list.specs.declared.edit_kinds.Edit.{Edit as AnyEdit};
 ghost use Rattle.net_model.specs.Forwarding.{HasHost, HasEnds, IsHostOf};
 ghost use Rattle.net_model.specs.Packets.{subject};
-ghost use Rattle.traffic_classes.specs.Classes.{AreMarks};
-ghost use Rattle.policy_encode.specs.Answers.{class_ends};
 ghost use Rattle.net_model.specs.Policies.{HasFewFailures};
-ghost use Rattle.policy_encode.specs.Questions.{demand_of, IsQuestion};
+ghost use Rattle.policy_encode.specs.Answers.{class_ends};
 ghost use Rattle.policy_encode.specs.Finding.{IsIndexOf};
+ghost use Rattle.policy_encode.specs.Questions.{demand_of, IsQuestion};
+ghost use Rattle.std.specs.Prelude.{◌≡◌, ◌<◌, ◌^◌, map, List, length, IfOk};
+ghost use Rattle.traffic_classes.specs.Classes.{AreMarks};
 
 use crate::answers::class_ends;
 use crate::condition_arcs::ArcContext;
@@ -41,7 +41,7 @@ fn host_place(net: &Network, p: Prefix) -> Face
     }
 }
 
-/// When the packets of each class enter and leave.
+/// For each class, the conditions under which its packets enter and leave.
 fn all_ends(
     alloc: Global,
     net: &Network,

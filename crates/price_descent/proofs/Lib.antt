@@ -1,4 +1,5 @@
 pub mod Starting
+pub mod Parts
 pub mod Logs
 pub mod Sound
 pub mod Underway

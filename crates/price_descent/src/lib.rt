@@ -9,6 +9,7 @@ mod bounding;
 mod descending;
 mod found;
 pub mod laws;
+mod loading;
 mod offering;
 mod prices;
 

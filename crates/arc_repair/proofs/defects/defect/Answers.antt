@@ -13,8 +13,11 @@ repair_defect-requires-clause-bound c = subst (λ (claim : Claim). claim_bound c
 
 pub returns-in-Repaired : goal.returns-in-Repaired
 returns-in-Repaired c =
-    subst (λ (claim : Claim). IfOk c.repair_defect.result (λ kind. MatchOption kind (IsRightClaim c.args.net.now c.args.doc.now c.args.list.now claim) (IsDefect c.args.net.now c.args.doc.now c.args.list.now claim))) (sym c.in-Repaired.is) c.repair_defect.ensures
+    subst (λ (claim : Claim). IfOk c.repair_defect.result
+    (λ kind. MatchOption kind (IsRightClaim c.args.net.now c.args.doc.now c.args.list.now claim) (IsDefect c.args.net.now c.args.doc.now c.args.list.now claim)))
+    (sym c.in-Repaired.is) c.repair_defect.ensures
 
 pub returns-in-NoRepair : goal.returns-in-NoRepair
 returns-in-NoRepair c =
-    subst (λ (claim : Claim). IsRightClaim c.args.net.now c.args.doc.now c.args.list.now claim) (sym c.in-NoRepair.is) (subst (λ (claim : Claim). claim_bound claim ≤ 512) c.in-NoRepair.is c.requires.bound)
+    subst (λ (claim : Claim). IsRightClaim c.args.net.now c.args.doc.now c.args.list.now claim) (sym c.in-NoRepair.is) (subst
+    (λ (claim : Claim). claim_bound claim ≤ 512) c.in-NoRepair.is c.requires.bound)

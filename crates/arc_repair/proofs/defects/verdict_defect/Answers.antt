@@ -38,7 +38,8 @@ returns-then-not-accepts c =
     let there : slice_get c.args.verdicts.now c.loop-place.place ≡ Some c.in-Some.verdict.now =
     slice_get_read c.args.verdicts.now (length c.args.verdicts.now) c.loop-place.place c.in-Some.verdict.now refl (omega (arith, c.in-Some.ensures.lookup.3.0)) c.in-Some.ensures.lookup.1 in
     (pair c.args.net.now c.args.policies.now c.args.verdicts.now c.loop-place.place c.loop-place.invariant c.index-policies-place.result c.in-Some.verdict.now here there).defect kinds.Witness
-    (not_right c.args.net.now c.index-policies-place.result _ c.in-Some.verdict.now _ (sym c.is_yes.ensures ∙ c.if-not-is_yes.false) (λ right. false≢true (sym c.if-not-accepts.true ∙ c.accepts.ensures.1 right)))
+    (not_right c.args.net.now c.index-policies-place.result _ c.in-Some.verdict.now _ (sym c.is_yes.ensures ∙ c.if-not-is_yes.false)
+    (λ right. false≢true (sym c.if-not-accepts.true ∙ c.accepts.ensures.1 right)))
 
 pub loop-place-preserved : goal.loop-place-preserved
 loop-place-preserved c =

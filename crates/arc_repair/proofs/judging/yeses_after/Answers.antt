@@ -11,7 +11,8 @@ pub yeses-requires-clause-ends : goal.yeses-requires-clause-ends
 yeses-requires-clause-ends g c = λ k d l. ends_stay _ _ _ c.in_ok-after.ensures.after _ (c.requires.ends k d l)
 
 pub yeses-requires-clause-classes : goal.yeses-requires-clause-classes
-yeses-requires-clause-classes g c = few_after classes_stay c.args.net.now c.in_ok-after.after c.args.doc.now c.args.list.now c.args.chosen.now c.requires.edits c.in_ok-after.ensures.after c.requires.classes
+yeses-requires-clause-classes g c = few_after classes_stay c.args.net.now c.in_ok-after.after c.args.doc.now c.args.list.now c.args.chosen.now c.requires.edits
+    c.in_ok-after.ensures.after c.requires.classes
 
 pub returns-clause-some : goal.returns-clause-some
 returns-clause-some g c =
@@ -20,4 +21,5 @@ returns-clause-some g c =
 
 pub returns-clause-none : goal.returns-clause-none
 returns-clause-none g c = λ none mends.
-    c.in_ok-verdicts.ensures.none none (meets_there c.args.net.now c.args.doc.now c.args.list.now c.args.chosen.now c.in_ok-after.after c.requires.valid c.requires.countable c.in_ok-after.ensures.after mends)
+    c.in_ok-verdicts.ensures.none none
+    (meets_there c.args.net.now c.args.doc.now c.args.list.now c.args.chosen.now c.in_ok-after.after c.requires.valid c.requires.countable c.in_ok-after.ensures.after mends)

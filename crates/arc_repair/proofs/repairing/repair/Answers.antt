@@ -4,7 +4,7 @@ use Rattle.net_model.specs.Policies.{MeetsDocument}
 use Rattle.edit_list.specs.declared.edit_kinds.Edit.{Edit}
 use Rattle.edit_list.specs.Ordered.{IsInOrder}
 use Rattle.edit_list.specs.Prices.{none_of}
-use Rattle.arc_repair.specs.Answers.{IsAnswer, IsRepairFault, IsUntouched, KeepsLimits}
+use Rattle.arc_repair.specs.Answers.{IsRepairAnswer, IsRepairFault, IsUntouched, KeepsLimits}
 use Rattle.arc_repair.specs.Repairs.{Mends}
 use Rattle.arc_repair.proofs.Glue.{of_each}
 use Rattle.arc_repair.proofs.repairing.repair.Goals as goal
@@ -27,7 +27,7 @@ returns-in_err-answer-clause-fault c =
 pub returns-clause-answer : goal.returns-clause-answer
 returns-clause-answer c =
     of_each c.edit_lists_are_one.ensures c.args.net.now c.args.doc.now c.in_ok-list.list c.requires.valid c.in_ok-list.ensures.edits
-    (λ (l : List Edit). IsAnswer c.args.net.now c.args.doc.now l c.args.bound c.args.limit c.in_ok-answer.answer) c.in_ok-answer.ensures.answer
+    (λ (l : List Edit). IsRepairAnswer c.args.net.now c.args.doc.now l c.args.bound c.args.limit c.in_ok-answer.answer) c.in_ok-answer.ensures.answer
 
 pub returns-clause-met : goal.returns-clause-met
 returns-clause-met c =

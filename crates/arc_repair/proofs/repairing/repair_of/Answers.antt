@@ -9,7 +9,7 @@ use Rattle.proof_log.specs.declared.steps.Step.{Step}
 use Rattle.proof_log.specs.Texts.{HasLine}
 use Rattle.arc_repair.specs.declared.answer.Answer.{Answer}
 use Rattle.arc_repair.specs.declared.answer.Answer.TheVariants.{Done}
-use Rattle.arc_repair.specs.Answers.{answer_steps, AnswersFew, IsAnswer, IsUntouched, ShowsFew}
+use Rattle.arc_repair.specs.Answers.{answer_steps, AnswersFew, IsRepairAnswer, IsUntouched, ShowsFew}
 use Rattle.arc_repair.specs.Repairs.{Mends}
 use Rattle.arc_repair.specs.Search.{AreYesAfter}
 use Rattle.arc_repair.proofs.Glue.{formula_fault, never_mended, out_of_memory}
@@ -18,8 +18,8 @@ use Rattle.arc_repair.proofs.Untouched.{met_in_order, none_for_each}
 use Rattle.arc_repair.proofs.Yeses.{never_some}
 use Rattle.arc_repair.proofs.repairing.repair_of.Goals as goal
 
-pub encode-requires-clause-failures : goal.encode-requires-clause-failures
-encode-requires-clause-failures g c = c.requires.failures
+pub encode_packed-requires-clause-failures : goal.encode_packed-requires-clause-failures
+encode_packed-requires-clause-failures g c = c.requires.failures
 
 pub returns-in_err-encoded-clause-fault : goal.returns-in_err-encoded-clause-fault
 returns-in_err-encoded-clause-fault g c =
@@ -58,9 +58,10 @@ returns-in-Some-clause-answer g c =
     let there : AreYesAfter net doc list c.slice.result.now c.in-Some.verdicts =
     subst (λ (o : Option (List Verdict)). IfSome o (AreYesAfter net doc list c.slice.result.now)) c.in-Some.is c.in_ok-verdicts.ensures.some in
     let judgement : AreYesAfter net doc list c.in_ok-none.none c.in-Some.verdicts = subst (λ (flags : List Bool). AreYesAfter net doc list flags c.in-Some.verdicts) c.slice.ensures.items there in
-    let done : IsAnswer net doc list c.args.bound c.args.limit (Done (Repaired 0 c.args.bound c.in_ok-none.none c.in-Some.verdicts) (record { steps = [] })) =
-    untouched_done net doc list c.requires.valid c.requires.countable c.args.bound c.in_ok-none.none c.in-Some.verdicts c.in_ok-encoded.encoded.formula c.in_ok-encoded.encoded.tops c.requires.bound c.in_ok-none.ensures judgement c.in_ok-encoded.ensures.formula in
-    subst (λ (answer : Answer). IsAnswer net doc list c.args.bound c.args.limit answer) (sym c.untouched.ensures) done
+    let done : IsRepairAnswer net doc list c.args.bound c.args.limit (Done (Repaired 0 c.args.bound c.in_ok-none.none c.in-Some.verdicts) (record { steps = [] })) =
+    untouched_done net doc list c.requires.valid c.requires.countable c.args.bound c.in_ok-none.none c.in-Some.verdicts c.in_ok-encoded.encoded.formula c.in_ok-encoded.encoded.tops
+    c.requires.bound c.in_ok-none.ensures judgement c.in_ok-encoded.ensures.formula in
+    subst (λ (answer : Answer). IsRepairAnswer net doc list c.args.bound c.args.limit answer) (sym c.untouched.ensures) done
 
 pub returns-in-Some-clause-met : goal.returns-in-Some-clause-met
 returns-in-Some-clause-met g c = λ mends. subst (λ (answer : Answer). IsUntouched c.args.list.now answer) (sym c.untouched.ensures) (refl, c.in_ok-none.ensures, refl)
@@ -86,12 +87,14 @@ returns-in-Some-clause-limits g c = record { classes = c.requires.classes; edits
 
 pub returns-clause-met : goal.returns-clause-met
 returns-clause-met g c =
-    let wrong : ¬ Mends c.args.net.now c.args.doc.now c.args.list.now c.slice.result.now = c.in_ok-verdicts.ensures.none (never_some c.in_ok-verdicts.field-0 (λ verdicts. c.in_default.not-Some verdicts)) in
+    let wrong : ¬ Mends c.args.net.now c.args.doc.now c.args.list.now c.slice.result.now =
+    c.in_ok-verdicts.ensures.none (never_some c.in_ok-verdicts.field-0 (λ verdicts. c.in_default.not-Some verdicts)) in
     λ mends. never_mended c.args.net.now c.args.doc.now c.args.list.now c.slice.result.now c.in_ok-answer.answer (c.slice.ensures.items ∙ c.in_ok-none.ensures) wrong mends
 
 pub returns-clause-meets : goal.returns-clause-meets
 returns-clause-meets g c =
-    let wrong : ¬ Mends c.args.net.now c.args.doc.now c.args.list.now c.slice.result.now = c.in_ok-verdicts.ensures.none (never_some c.in_ok-verdicts.field-0 (λ verdicts. c.in_default.not-Some verdicts)) in
+    let wrong : ¬ Mends c.args.net.now c.args.doc.now c.args.list.now c.slice.result.now =
+    c.in_ok-verdicts.ensures.none (never_some c.in_ok-verdicts.field-0 (λ verdicts. c.in_default.not-Some verdicts)) in
     λ order meets.
     never_mended c.args.net.now c.args.doc.now c.args.list.now c.slice.result.now c.in_ok-answer.answer (c.slice.ensures.items ∙ c.in_ok-none.ensures) wrong
     (met_in_order c.args.net.now c.args.doc.now c.args.list.now c.requires.valid order meets)

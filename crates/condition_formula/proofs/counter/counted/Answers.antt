@@ -6,4 +6,5 @@ use Rattle.condition_formula.proofs.counter.counted.Goals as goal
 
 pub loop-number-preserved : goal.loop-number-preserved
 loop-number-preserved c =
-    Adds-more (λ (n : ℕ). kept_parts (cell c.args.above.first c.args.above.columns) c.args.edit n ++ added_parts (cell c.args.above.first c.args.above.columns) c.args.weight c.args.edit n) c.args.out.now c.loop-number.out c.counted_at.new.out c.loop-number.number c.loop-number.invariant c.in_ok-counted_at.ensures
+    Adds-more (λ (n : ℕ). kept_parts (cell c.args.above.first c.args.above.columns) c.args.edit n ++ added_parts (cell c.args.above.first c.args.above.columns)
+    c.args.weight c.args.edit n) c.args.out.now c.loop-number.out c.counted_at.new.out c.loop-number.number c.loop-number.invariant c.in_ok-counted_at.ensures

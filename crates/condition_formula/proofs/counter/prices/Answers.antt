@@ -9,5 +9,9 @@ use Rattle.condition_formula.proofs.counter.prices.Goals as goal
 
 pub loop-edit-preserved : goal.loop-edit-preserved
 loop-edit-preserved c =
-    Adds-more (λ (e : ℕ). flat_map (λ (n : ℕ). kept_parts (cell c.args.above.first c.args.above.columns) e n ++ added_parts (cell c.args.above.first c.args.above.columns) (slice_index_or c.args.weights.now e 0) e n) (upto (c.args.bound + 1))) c.args.out.now c.loop-edit.out c.counted.new.out c.loop-edit.edit c.loop-edit.invariant
-    (Adds-same _ _ _ _ (ap (λ (w : ℕ). flat_map (λ (n : ℕ). kept_parts (cell c.args.above.first c.args.above.columns) c.loop-edit.edit n ++ added_parts (cell c.args.above.first c.args.above.columns) w c.loop-edit.edit n) (upto (c.args.bound + 1))) c.weight_at.ensures) c.in_ok-counted.ensures)
+    Adds-more (λ (e : ℕ). flat_map
+    (λ (n : ℕ). kept_parts (cell c.args.above.first c.args.above.columns) e n ++ added_parts (cell c.args.above.first c.args.above.columns)
+    (slice_index_or c.args.weights.now e 0) e n) (upto (c.args.bound + 1))) c.args.out.now c.loop-edit.out c.counted.new.out c.loop-edit.edit c.loop-edit.invariant
+    (Adds-same _ _ _ _ (ap
+    (λ (w : ℕ). flat_map (λ (n : ℕ). kept_parts (cell c.args.above.first c.args.above.columns) c.loop-edit.edit n ++ added_parts
+    (cell c.args.above.first c.args.above.columns) w c.loop-edit.edit n) (upto (c.args.bound + 1))) c.weight_at.ensures) c.in_ok-counted.ensures)

@@ -6,4 +6,5 @@ use Rattle.condition_formula.proofs.draft.literals.Goals as goal
 
 pub loop-part-preserved : goal.loop-part-preserved
 loop-part-preserved c =
-    fold_filter_step with_literal literal_of [] c.loop-part.lits c.add_part.new.lits c.args.parts.now c.loop-part.part-index (Fixed false) c.loop-part-test.true c.loop-part.invariant c.in_ok-add_part.ensures
+    fold_filter_step with_literal literal_of [] c.loop-part.lits c.add_part.new.lits c.args.parts.now c.loop-part.part-index (Fixed false) c.loop-part-test.true
+    c.loop-part.invariant c.in_ok-add_part.ensures

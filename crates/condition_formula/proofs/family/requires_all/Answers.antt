@@ -7,4 +7,5 @@ use Rattle.condition_formula.proofs.family.requires_all.Goals as goal
 
 pub loop-condition-preserved : goal.loop-condition-preserved
 loop-condition-preserved c =
-    Adds-each_from (λ (k : Condition). no c.args.variable ∷ affirmed k ∷ []) c.args.out.now c.loop-condition.out c.requires_condition.new.out c.args.conditions.now c.loop-condition.condition-index Always c.loop-condition-test.true c.loop-condition.invariant c.in_ok-requires_condition.ensures
+    Adds-each_from (λ (k : Condition). no c.args.variable ∷ affirmed k ∷ []) c.args.out.now c.loop-condition.out c.requires_condition.new.out
+    c.args.conditions.now c.loop-condition.condition-index Always c.loop-condition-test.true c.loop-condition.invariant c.in_ok-requires_condition.ensures

@@ -7,7 +7,8 @@ use Rattle.condition_formula.proofs.paths.arcs_clear.Goals as goal
 
 pub loop-arc-preserved : goal.loop-arc-preserved
 loop-arc-preserved c =
-    Adds-next (clear_parts c.args.class) c.args.out.now c.loop-arc.out c.clear.new.out c.slice-arc-items.result.now c.loop-arc.arc-index c.arc-item.result c.loop-arc-test.true c.arc-item.is c.loop-arc.invariant c.in_ok-clear.ensures
+    Adds-next (clear_parts c.args.class) c.args.out.now c.loop-arc.out c.clear.new.out c.slice-arc-items.result.now c.loop-arc.arc-index c.arc-item.result
+    c.loop-arc-test.true c.arc-item.is c.loop-arc.invariant c.in_ok-clear.ensures
 
 pub returns : goal.returns
 returns c =

@@ -16,7 +16,8 @@ loop-q-preserved c =
     ap (λ (qs : List Question). sum_by (question_size nodes) qs) is ∙ sum_by-cons (question_size nodes) c.in-Some.q.now c.in-Some.others.now in
     let before : c.loop-q.next + sum_by (question_size nodes) c.loop-q.rest.now ≡ c.args.first + sum_by (question_size nodes) c.args.questions.now = c.loop-q.invariant.next in
     record {
-      clauses = questions-step nodes c.args.links c.loop-q.next c.question_size-next.result c.args.out.now c.loop-q.out c.question.new.out (questions_parts nodes c.args.links c.args.first c.args.questions.now)
+      clauses = questions-step nodes c.args.links c.loop-q.next c.question_size-next.result c.args.out.now c.loop-q.out c.question.new.out
+          (questions_parts nodes c.args.links c.args.first c.args.questions.now)
           c.loop-q.rest.now c.in-Some.others.now c.in-Some.q.now is size c.in_ok-question.ensures c.loop-q.invariant.clauses;
       next = omega (arith, size, sum, before);
       arcs = All-rest (λ (q : Question). length q.arcs ≤ 65536) c.in-Some.q.now c.in-Some.others.now c.loop-q.rest.now is c.loop-q.invariant.arcs;
@@ -24,4 +25,5 @@ loop-q-preserved c =
 
 pub returns-clause-clauses : goal.returns-clause-clauses
 returns-clause-clauses c =
-    questions-end c.args.nodes c.args.links c.loop-q.next c.args.out.now c.loop-q.out (questions_parts c.args.nodes c.args.links c.args.first c.args.questions.now) c.loop-q.rest.now c.in_default.ensures.cases c.loop-q.invariant.clauses
+    questions-end c.args.nodes c.args.links c.loop-q.next c.args.out.now c.loop-q.out (questions_parts c.args.nodes c.args.links c.args.first
+    c.args.questions.now) c.loop-q.rest.now c.in_default.ensures.cases c.loop-q.invariant.clauses

@@ -11,12 +11,15 @@ use Rattle.condition_formula.proofs.sides.steps.Goals as goal
 
 pub loop-arc-preserved : goal.loop-arc-preserved
 loop-arc-preserved c =
-    let f = λ (arc : ConditionArc). let ps : List (List Part) = if is_counted c.args.q.now.demand arc then step_parts (cell c.args.reached.first c.args.reached.columns c.args.class) c.args.class arc ∷ [] else [] in ps in
-    Adds-next f c.args.out.now c.loop-arc.out c.counted_step.new.out c.slice-arc-items.result.now c.loop-arc.arc-index c.arc-item.result c.loop-arc-test.true c.arc-item.is c.loop-arc.invariant c.in_ok-counted_step.ensures
+    let f = λ (arc : ConditionArc). let ps : List (List Part) = if is_counted c.args.q.now.demand arc then step_parts
+    (cell c.args.reached.first c.args.reached.columns c.args.class) c.args.class arc ∷ [] else [] in ps in
+    Adds-next f c.args.out.now c.loop-arc.out c.counted_step.new.out c.slice-arc-items.result.now c.loop-arc.arc-index c.arc-item.result c.loop-arc-test.true c.arc-item.is
+    c.loop-arc.invariant c.in_ok-counted_step.ensures
 
 pub returns : goal.returns
 returns c =
     let one = step_parts (cell c.args.reached.first c.args.reached.columns c.args.class) c.args.class in
     let f = λ (arc : ConditionArc). let ps : List (List Part) = if is_counted c.args.q.now.demand arc then one arc ∷ [] else [] in ps in
-    Adds-same _ _ _ _ (ap (λ (xs : List ConditionArc). flat_map f xs) c.slice-arc-items.ensures.items ∙ flat_map-filter (λ (arc : ConditionArc). let ps : List (List Part) = one arc ∷ [] in ps) (is_counted c.args.q.now.demand) c.args.q.now.arcs ∙ map_as_flat one _)
+    Adds-same _ _ _ _ (ap (λ (xs : List ConditionArc). flat_map f xs) c.slice-arc-items.ensures.items
+    ∙ flat_map-filter (λ (arc : ConditionArc). let ps : List (List Part) = one arc ∷ [] in ps) (is_counted c.args.q.now.demand) c.args.q.now.arcs ∙ map_as_flat one _)
     (Adds-all f c.args.out.now c.loop-arc.out c.slice-arc-items.result.now c.loop-arc.arc-index c.loop-arc-test.false c.loop-arc.invariant)

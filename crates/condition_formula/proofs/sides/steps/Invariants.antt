@@ -9,4 +9,6 @@ use Rattle.condition_formula.specs.Writing.{Adds}
 use Rattle.condition_formula.proofs.sides.steps.Given as goal
 
 abbrev pub invariant-loop-arc : goal.invariant-loop-arc
-invariant-loop-arc l = Adds l.fn.out l.out (flat_map (λ (arc : ConditionArc). if is_counted l.q.demand arc then step_parts (cell l.reached.first l.reached.columns l.class) l.class arc ∷ [] else []) (take l.arc-index l.arc-items))
+invariant-loop-arc l =
+    Adds l.fn.out l.out (flat_map (λ (arc : ConditionArc). if is_counted l.q.demand arc then step_parts (cell l.reached.first l.reached.columns l.class) l.class arc ∷ [] else [])
+    (take l.arc-index l.arc-items))

@@ -5,7 +5,8 @@ use Rattle.condition_formula.proofs.variables.each_implies.Goals as goal
 
 pub loop-one-preserved : goal.loop-one-preserved
 loop-one-preserved c =
-    Adds-each_number (λ (v : ℕ). no v ∷ map yes c.args.others.now) c.args.out.now c.loop-one.out c.one_implies.new.out c.args.ones.now c.loop-one.one-index 0 c.loop-one-test.true c.loop-one.invariant c.in_ok-one_implies.ensures
+    Adds-each_number (λ (v : ℕ). no v ∷ map yes c.args.others.now) c.args.out.now c.loop-one.out c.one_implies.new.out c.args.ones.now c.loop-one.one-index 0
+    c.loop-one-test.true c.loop-one.invariant c.in_ok-one_implies.ensures
 
 pub returns : goal.returns
 returns c =

@@ -5,7 +5,8 @@ use Rattle.condition_formula.proofs.variables.none_of.Goals as goal
 
 pub loop-variable-preserved : goal.loop-variable-preserved
 loop-variable-preserved c =
-    Adds-each_number (λ (v : ℕ). no v ∷ []) c.args.out.now c.loop-variable.out c.not.new.out c.args.variables.now c.loop-variable.variable-index 0 c.loop-variable-test.true c.loop-variable.invariant c.in_ok-not.ensures
+    Adds-each_number (λ (v : ℕ). no v ∷ []) c.args.out.now c.loop-variable.out c.not.new.out c.args.variables.now c.loop-variable.variable-index 0
+    c.loop-variable-test.true c.loop-variable.invariant c.in_ok-not.ensures
 
 pub returns : goal.returns
 returns c =

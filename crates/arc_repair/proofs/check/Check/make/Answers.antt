@@ -1,7 +1,7 @@
 use Rattle.std.proofs.Common.{◌≡◌, ◌∙◌, ℕ, Option, inl, List, ap, subst, arith}
 use Rattle.std.proofs.lemmas.Result.{err_from_is_err_and}
 use Rattle.edit_list.specs.declared.edit_kinds.Edit.{Edit}
-use Rattle.policy_encode.specs.Formulas.{IsFaultOf, IsRepairFormula, IsWithin}
+use Rattle.policy_encode.specs.Formulas.{IsFaultOfFormula, IsRepairFormula, IsWithin}
 use Rattle.proof_check.specs.Knowledge.{start}
 use Rattle.arc_repair.specs.Answers.{IsRepairFault}
 use Rattle.arc_repair.specs.Checks.{ClaimKeepsLimits, IsBegun, IsDefect}
@@ -15,7 +15,8 @@ returns-then-bound-gt-PRICE_LIMIT-clause-made c = λ other others. beyond c.args
 
 pub returns-then-bound-gt-PRICE_LIMIT-clause-limits : goal.returns-then-bound-gt-PRICE_LIMIT-clause-limits
 returns-then-bound-gt-PRICE_LIMIT-clause-limits c =
-    of_each c.edit_lists_are_one.ensures c.args.net.now c.args.doc.now c.in_ok-list.list c.requires.valid c.in_ok-list.ensures.edits (λ (list : List Edit). ClaimKeepsLimits c.args.net.now c.args.doc.now list c.args.claim.now)
+    of_each c.edit_lists_are_one.ensures c.args.net.now c.args.doc.now c.in_ok-list.list c.requires.valid c.in_ok-list.ensures.edits
+    (λ (list : List Edit). ClaimKeepsLimits c.args.net.now c.args.doc.now list c.args.claim.now)
     (record {
       classes = c.in_ok-list.ensures.few_classes;
       edits = c.in_ok-list.ensures.few;
@@ -34,10 +35,11 @@ returns-in_err-list-clause-fault c =
 pub returns-in_err-encoded-clause-fault : goal.returns-in_err-encoded-clause-fault
 returns-in_err-encoded-clause-fault c =
     let p = err_from_is_err_and c.from_residual-in_err-encoded.result c.from_residual-in_err-encoded.ensures.1 in
-    let fault : IsFaultOf c.args.net.now c.args.doc.now c.in_ok-list.list (claim_bound c.args.claim.now) c.in_err-encoded.field-0.0 =
-    subst (λ (bound : ℕ). IsFaultOf c.args.net.now c.args.doc.now c.in_ok-list.list bound c.in_err-encoded.field-0.0) c.bound_of-bound.ensures c.in_err-encoded.ensures.fault in
+    let fault : IsFaultOfFormula c.args.net.now c.args.doc.now c.in_ok-list.list (claim_bound c.args.claim.now) c.in_err-encoded.field-0.0 =
+    subst (λ (bound : ℕ). IsFaultOfFormula c.args.net.now c.args.doc.now c.in_ok-list.list bound c.in_err-encoded.field-0.0) c.bound_of-bound.ensures c.in_err-encoded.ensures.fault in
     rw (p.1, p.2)
-    (formula_fault c.args.net.now c.args.doc.now c.in_ok-list.list c.in_ok-list.ensures.edits (claim_bound c.args.claim.now) c.in_err-encoded.field-0.0 c.in_ok-list.ensures.few_classes c.in_ok-list.ensures.few fault)
+    (formula_fault c.args.net.now c.args.doc.now c.in_ok-list.list c.in_ok-list.ensures.edits
+    (claim_bound c.args.claim.now) c.in_err-encoded.field-0.0 c.in_ok-list.ensures.few_classes c.in_ok-list.ensures.few fault)
 
 pub returns-in_err-kind-clause-fault : goal.returns-in_err-kind-clause-fault
 returns-in_err-kind-clause-fault c =
@@ -54,12 +56,14 @@ defect-requires-clause-flags c = flags_of c.args.net.now c.args.doc.now c.in_ok-
 
 pub returns-in-Some-clause-made : goal.returns-in-Some-clause-made
 returns-in-Some-clause-made c =
-    of_each c.edit_lists_are_one.ensures c.args.net.now c.args.doc.now c.in_ok-list.list c.requires.valid c.in_ok-list.ensures.edits (λ (list : List Edit). IsDefect c.args.net.now c.args.doc.now list c.args.claim.now c.in-Some.kind)
+    of_each c.edit_lists_are_one.ensures c.args.net.now c.args.doc.now c.in_ok-list.list c.requires.valid c.in_ok-list.ensures.edits
+    (λ (list : List Edit). IsDefect c.args.net.now c.args.doc.now list c.args.claim.now c.in-Some.kind)
     (this_wrong c.args.net.now c.args.doc.now c.in_ok-list.list c.args.claim.now c.in_ok-kind.field-0 c.in-Some.kind c.in-Some.is c.in_ok-kind.ensures)
 
 pub returns-in-Some-clause-limits : goal.returns-in-Some-clause-limits
 returns-in-Some-clause-limits c =
-    of_each c.edit_lists_are_one.ensures c.args.net.now c.args.doc.now c.in_ok-list.list c.requires.valid c.in_ok-list.ensures.edits (λ (list : List Edit). ClaimKeepsLimits c.args.net.now c.args.doc.now list c.args.claim.now)
+    of_each c.edit_lists_are_one.ensures c.args.net.now c.args.doc.now c.in_ok-list.list c.requires.valid c.in_ok-list.ensures.edits
+    (λ (list : List Edit). ClaimKeepsLimits c.args.net.now c.args.doc.now list c.args.claim.now)
     (record {
       classes = c.in_ok-list.ensures.few_classes;
       edits = c.in_ok-list.ensures.few;
@@ -69,19 +73,22 @@ returns-in-Some-clause-limits c =
 pub returns-clause-made : goal.returns-clause-made
 returns-clause-made c =
     let same : c.bound_of-bound.result ≡ claim_bound c.args.claim.now = c.bound_of-bound.ensures in
-    of_each c.edit_lists_are_one.ensures c.args.net.now c.args.doc.now c.in_ok-list.list c.requires.valid c.in_ok-list.ensures.edits (λ (list : List Edit). IsBegun c.args.net.now c.args.doc.now list c.args.claim.now (record { checker = c.in_ok-make.field-0; needs_refutation = c.needs_refutation.result }))
+    of_each c.edit_lists_are_one.ensures c.args.net.now c.args.doc.now c.in_ok-list.list c.requires.valid c.in_ok-list.ensures.edits
+    (λ (list : List Edit). IsBegun c.args.net.now c.args.doc.now list c.args.claim.now (record { checker = c.in_ok-make.field-0; needs_refutation = c.needs_refutation.result }))
     (record {
       right = none_wrong c.args.net.now c.args.doc.now c.in_ok-list.list c.args.claim.now c.in_ok-kind.field-0 (λ kind. c.in_default.not-Some kind) c.in_ok-kind.ensures;
       formula = c.in_ok-encoded.encoded.formula;
       tops = c.in_ok-encoded.encoded.tops;
-      is_formula = subst (λ (bound : ℕ). IsRepairFormula c.args.net.now c.args.doc.now c.in_ok-list.list bound c.in_ok-encoded.encoded.formula c.in_ok-encoded.encoded.tops) same c.in_ok-encoded.ensures.formula;
+      is_formula = subst (λ (bound : ℕ). IsRepairFormula c.args.net.now c.args.doc.now c.in_ok-list.list bound c.in_ok-encoded.encoded.formula c.in_ok-encoded.encoded.tops)
+          same c.in_ok-encoded.ensures.formula;
       knows = c.in_ok-make.ensures ∙ ap (λ (least : Option ℕ). start c.in_ok-encoded.encoded.formula least c.in_ok-encoded.encoded.tops) c.least_bound-least.ensures;
       needs = c.needs_refutation.ensures;
     })
 
 pub returns-clause-limits : goal.returns-clause-limits
 returns-clause-limits c =
-    of_each c.edit_lists_are_one.ensures c.args.net.now c.args.doc.now c.in_ok-list.list c.requires.valid c.in_ok-list.ensures.edits (λ (list : List Edit). ClaimKeepsLimits c.args.net.now c.args.doc.now list c.args.claim.now)
+    of_each c.edit_lists_are_one.ensures c.args.net.now c.args.doc.now c.in_ok-list.list c.requires.valid c.in_ok-list.ensures.edits
+    (λ (list : List Edit). ClaimKeepsLimits c.args.net.now c.args.doc.now list c.args.claim.now)
     (record {
       classes = c.in_ok-list.ensures.few_classes;
       edits = c.in_ok-list.ensures.few;

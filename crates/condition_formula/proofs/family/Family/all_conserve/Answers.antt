@@ -19,7 +19,8 @@ conserves_between-requires-clause-into c =
 
 pub loop-node-preserved : goal.loop-node-preserved
 loop-node-preserved c =
-    let f = λ (n : ℕ). let ps : List (List Part) = if not (n == c.args.self.now.q.now.source) && not (n == c.args.self.now.q.now.target) then node_parts c.args.self.now.q.now (used_by c.args.self.now) n else [] in ps in
+    let f = λ (n : ℕ). let ps : List (List Part) = if not (n == c.args.self.now.q.now.source) && not (n == c.args.self.now.q.now.target) then node_parts c.args.self.now.q.now
+    (used_by c.args.self.now) n else [] in ps in
     Adds-more f c.args.out.now c.loop-node.out c.conserves_between.new.out c.loop-node.node c.loop-node.invariant c.in_ok-conserves_between.ensures
 
 pub returns : goal.returns

@@ -13,4 +13,5 @@ returns c =
     let ins = c.in_ok-ins.ensures.variables ∙ ap (λ (ps : List ℕ). map used ps) c.requires.into in
     Adds-then _ _ _ _ _
     (Adds-same _ _ _ _ (implies-map used (into q n) (out_of q n) c.slice.result.now c.slice-2.result.now (c.slice.ensures.items ∙ ins) (c.slice-2.ensures.items ∙ outs)) c.in_ok-each_implies.ensures)
-    (Adds-same _ _ _ _ (implies-map used (out_of q n) (into q n) c.slice-3.result.now c.slice-4.result.now (c.slice-3.ensures.items ∙ outs) (c.slice-4.ensures.items ∙ ins)) c.in_ok-each_implies-2.ensures)
+    (Adds-same _ _ _ _ (implies-map used (out_of q n) (into q n) c.slice-3.result.now c.slice-4.result.now (c.slice-3.ensures.items ∙ outs) (c.slice-4.ensures.items ∙ ins))
+    c.in_ok-each_implies-2.ensures)

@@ -12,7 +12,8 @@ loop-number-preserved c =
     record {
       variables = c.in_ok-extend.ensures.variables
           ∙ ap (λ (vs : List ℕ). vs ++ c.slice.result.now) c.loop-number.invariant.variables
-          ∙ ap (λ (vs : List ℕ). map v (over_link q c.loop-number.number c.args.link) ++ vs) (c.slice.ensures.items ∙ c.in_ok-row.ensures.variables ∙ ap (λ (ps : List ℕ). map (used c.loop-number.number) ps) c.requires)
+          ∙ ap (λ (vs : List ℕ). map v (over_link q c.loop-number.number c.args.link) ++ vs)
+          (c.slice.ensures.items ∙ c.in_ok-row.ensures.variables ∙ ap (λ (ps : List ℕ). map (used c.loop-number.number) ps) c.requires)
           ∙ sym (over-more q c.args.link c.loop-number.number used);
       small = c.in_ok-extend.ensures.small;
     }

@@ -12,4 +12,5 @@ own_link-requires c =
 
 pub loop-link-preserved : goal.loop-link-preserved
 loop-link-preserved c =
-    Adds-more (λ (k : ℕ). exclusions {X = ℕ × ℕ} (λ (item : ℕ × ℕ). cell c.args.self.now.used.first c.args.self.now.used.columns item.0 item.1) (over_link c.args.self.now.q.now c.args.self.now.many k)) c.args.out.now c.loop-link.out c.own_link.new.out c.loop-link.link c.loop-link.invariant c.in_ok-own_link.ensures
+    Adds-more (λ (k : ℕ). exclusions {X = ℕ × ℕ} (λ (item : ℕ × ℕ). cell c.args.self.now.used.first c.args.self.now.used.columns item.0 item.1)
+    (over_link c.args.self.now.q.now c.args.self.now.many k)) c.args.out.now c.loop-link.out c.own_link.new.out c.loop-link.link c.loop-link.invariant c.in_ok-own_link.ensures

@@ -7,4 +7,5 @@ use Rattle.policy_encode.specs.Finding.{IsIndexOf}
 use Rattle.policy_encode.proofs.condition_arcs.ArcContext.arcs.Given as goal
 
 abbrev pub invariant-loop-place : goal.invariant-loop-place
-invariant-loop-place l = (list : List Edit) → IsIndexOf list l.self.index.now → l.arcs ≡ flat_map (link_arcs l.self.net.now list l.self.to l.self.classes.now) (take l.place (placed l.self.net.now.links))
+invariant-loop-place l = (list : List Edit) → IsIndexOf list l.self.index.now →
+    l.arcs ≡ flat_map (link_arcs l.self.net.now list l.self.to l.self.classes.now) (take l.place (placed l.self.net.now.links))

@@ -1,5 +1,5 @@
 use Rattle.policy_encode.proofs.Making.{small_net}
-use Rattle.policy_encode.proofs.encoding.encode.Goals as goal
+use Rattle.policy_encode.proofs.encoding.encode_packed.Goals as goal
 
 pub encode-requires-clause-net : goal.encode-requires-clause-net
 encode-requires-clause-net c =
