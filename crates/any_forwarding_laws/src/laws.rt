@@ -1,5 +1,6 @@
 //! Laws over the definitions alone: each is the contract of a function that does nothing.
-ghost use Rattle.net_model.specs.Validity.{IsValid};
+ghost use Rattle.any_forwarding_laws.specs.HubExample.{ExampleHasHub};
+ghost use Rattle.any_forwarding_laws.specs.Hubs.{HubsCover};
 ghost use Rattle.any_forwarding_laws.specs.Laws.{ClosedSidesStop, ClosedSidesForceWaypoints};
 ghost use Rattle.any_forwarding_laws.specs.Laws.{WalksAreCarried, RightVerdictsDecideAny};
 ghost use Rattle.any_forwarding_laws.specs.Laws.{ModelDeliveriesAreCarried, EverywhereIsOpen};
@@ -7,8 +8,7 @@ ghost use Rattle.any_forwarding_laws.specs.Laws.{CoveredDeliveriesAreCarried, Cl
 ghost use Rattle.any_forwarding_laws.specs.Laws.{ClosedCopiesForceWaypoints, AnyIsStronger};
 ghost use Rattle.any_forwarding_laws.specs.Laws.{ExampleIsOpen, WiderCopiesCover};
 ghost use Rattle.any_forwarding_laws.specs.Laws.{EachCoversItself, CoversInTurn, HubsLeadOn};
-ghost use Rattle.any_forwarding_laws.specs.Hubs.{HubsCover};
-ghost use Rattle.any_forwarding_laws.specs.HubExample.{ExampleHasHub};
+ghost use Rattle.net_model.specs.Validity.{IsValid};
 ghost use Rattle.net_model.specs.declared.rows.Network.{Network};
 
 /// In an open network right closed sides show that no forwarding delivers a packet of the class, or

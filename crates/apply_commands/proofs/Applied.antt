@@ -33,7 +33,7 @@ pub ready_stopped : (held : Option Files) (words : ApplyWords) (stop : Stop) →
 ready_stopped held words stop told =
     stopped (WritesCopies words) (IsApplyRefusal words) (IsApplied words) (IsReadyRefusal words) (HoldsReady words) held stop (λ files r u. inl u) told
 
--- the document and the edit file are held, and this is what the router files gave
+-- the document and the edit file that were read
 abbrev pub ReadBefore : ApplyWords → Option Files → Ready → Type 0
 ReadBefore words held ready = IfSome held (λ files. ReadsReady words files (Ok ready))
 
@@ -42,12 +42,13 @@ none_told words (stops.Refused r) = tt
 none_told words stops.Memory = tt
 none_told words stops.Failed = tt
 
--- and the router files have a network
+-- the router files that were read, with their network
 abbrev pub ReadSources : ApplyWords → Option Files → Ready → Sources → Type 0
 ReadSources words held ready sources = IfSome held (λ files. HoldsDocument words.document files ready.doc → ReadsSources Editing [] words.document ready.doc files (Ok sources))
 
 choice_told : (files : Files) (words : ApplyWords) (ready : Ready) (sources : Sources) (text : List ℕ) (stop : Stop) → text ≡ ready.text.items → HoldsReady words files ready
-    → ReadsSources Editing [] words.document ready.doc files (Ok sources) → AreFit ready.doc sources.built.net → Chooses words sources.built.net ready.doc text (Err stop) → AppliedAs words (Some files) stop
+    → ReadsSources Editing [] words.document ready.doc files (Ok sources) → AreFit ready.doc sources.built.net → Chooses words sources.built.net ready.doc text (Err stop) →
+    AppliedAs words (Some files) stop
 choice_told files words ready sources text (stops.Refused r) text_is is read fit (inl passes) =
     inr (inr (inl (record { doc = ready.doc; net = sources.built.net; has = record { ready = is.is_ready; input = read.input }; valid = fit.valid; passes = passes })))
 choice_told files words ready sources text (stops.Refused r) text_is is read fit (inr line) =
@@ -69,7 +70,7 @@ choice_stopped held one same words ready sources text stop text_is before told f
     go None b t = none_told words stop
     go (Some files) b t = choice_told files words ready sources text stop text_is b (t b.is_ready.document_is) fit chooses
 
--- what is written are copies
+-- the written files are copies
 own : (words : ApplyWords) (ready : Ready) (sources : Sources) (chosen : List Edit) (done : Done) → IsWritten words.suffix ready.doc sources.built sources.files chosen done → WritesCopies words done
 own words ready sources chosen done written =
     let P : List (List ℕ × List ℕ) → Type 0 = λ pairs. All (λ (write : List ℕ × List ℕ). IsCopyName words.suffix write.0) pairs in

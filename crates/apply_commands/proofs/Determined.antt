@@ -1,4 +1,4 @@
--- The words and the files give one refusal of `apply`, and none beside an answer.
+-- The words and the files give at most one refusal of `apply`, and none beside an answer.
 use Rattle.std.proofs.Common.{◌≡◌, ◌⊎◌, ℕ, ◌+◌, inl, inr, true, false, List, [], sym, ◌∙◌, ap, subst}
 use Rattle.std.proofs.lemmas.Bool.{false≢true}
 use Rattle.arc_base.specs.declared.refusal.Kind.TheVariants.{EditLine}
@@ -17,10 +17,11 @@ use Rattle.run_files.specs.declared.outcome.FileRefusal.{FileRefusal}
 use Rattle.run_files.specs.Refusals.{bytes_at, read_refusal, refusal_of}
 use Rattle.run_inputs.specs.Inputs.{HoldsDocument, HoldsInput}
 use Rattle.run_inputs.proofs.Determined.{determined, no_value, one_value}
-use Rattle.apply_commands.specs.Applies.{edit_file_limit, edit_texts, has_copy_clash, CanBeApplied, IsReadyWithNetwork, HasWrongLine, IsApplyRefusal, IsReady, IsReadyRefusal, PassesLimit, RefusesEditCounts, RefusesEditFile, RefusesLine, RefusesNames, RefusesRouterFiles}
+use Rattle.apply_commands.specs.Applies.{edit_file_limit, edit_texts, has_copy_clash, CanBeApplied, IsReadyWithNetwork, HasWrongLine, IsApplyRefusal}
+use Rattle.apply_commands.specs.Applies.{IsReady, IsReadyRefusal, PassesLimit, RefusesEditCounts, RefusesEditFile, RefusesLine, RefusesNames, RefusesRouterFiles}
 use Rattle.apply_commands.proofs.FirstLines.{first_lines, one_wrong_line}
 
--- a network passes no limit where it has few edits
+-- a network with few edits exceeds no limit
 limit_or_few : (words : ApplyWords) (net : Network) (doc : Document) (r s : FileRefusal) (text : List ℕ) → IsValid net → PassesLimit words net doc r → HasWrongLine words net doc text s → ⊥
 limit_or_few words net doc r s text valid passes line = few_or_limit net doc line.list valid line.edits.are line.edits.few line.edits.few_classes passes.what passes.count passes.many
 
@@ -32,7 +33,8 @@ module _ (words : ApplyWords) (files : Files) where
   clash_or_free doc other h k free clash = false≢true (sym free ∙ ap (has_copy_clash words) (docs doc other h k) ∙ clash)
 
   -- what holds of the document and the network, whichever they are
-  moved : (doc : Document) (net : Network) → IsReadyWithNetwork words files doc net → (Q : Document → Network → Type 0) (other : Document) (last : Network) → IsReadyWithNetwork words files other last → Q other last → Q doc net
+  moved : (doc : Document) (net : Network) → IsReadyWithNetwork words files doc net → (Q : Document → Network → Type 0) (other : Document) (last : Network) →
+      IsReadyWithNetwork words files other last → Q other last → Q doc net
   moved doc net has Q other last h q =
       let same : doc ≡ other = docs doc other has.ready.document_is h.ready.document_is in
       let P : Document → Type 0 = λ d. HoldsInput Editing [] words.document files d net in
@@ -59,7 +61,7 @@ module _ (words : ApplyWords) (files : Files) where
   one_ready r s (inr (inr u)) (inr (inl v)) = absurd (clash_or_free u.doc v.doc u.document_is v.document_is u.free v.clash)
   one_ready r s (inr (inr u)) (inr (inr v)) = one_value (read_refusal edit_file_limit files words.edits) r s u.refused v.refused
 
-  -- ---- once they have a network
+  -- ---- with a network
 
   abbrev Counted : FileRefusal → Type 0
   Counted r = RefusesEditCounts words files r ⊎ RefusesLine words files r

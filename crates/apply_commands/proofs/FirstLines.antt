@@ -1,4 +1,4 @@
--- Where all lines name edits, each once, so do the first of them, and there is one first wrong line.
+-- If all lines name edits, each once, so do the first of them, and there is one first wrong line.
 use Rattle.std.proofs.Common.{◌≡◌, ◌≢◌, ℕ, Bool, Option, List, ◌++◌, length-append, get_or, take, drop, map, sym, ◌∙◌, ap, subst, arith, ◌+◌, ◌<◌, inl, inr}
 use Rattle.std.specs.Prelude.{not, All, AllPairs, IsSome, filter}
 use Rattle.std.proofs.lemmas.Bool.{cases_lt}
@@ -35,7 +35,7 @@ module _ (net : Network) (edits : List Edit) where
         once = front_pairs ◌≢◌ xs ys (subst (AllPairs ◌≢◌) whole lines.once);
       }
 
-  -- a line is not the first wrong one where later lines are right
+  -- a line is not the first wrong one if a later line is
   too_early : (ls : List (List ℕ)) (n m : ℕ) (u : IsWrongLine net edits ls n) (v : IsWrongLine net edits ls m) → u.place < v.place → ⊥
   too_early ls n m u v below =
       u.wrong (subst (AreEditLines net edits) (take-take (u.place + 1) v.place ls (omega (arith, below))) (first_lines (take v.place ls) (u.place + 1) v.right_before))

@@ -31,7 +31,7 @@ use Rattle.run_inputs.specs.Inputs.{contents}
 abbrev pub edit_file_limit : ℕ
 edit_file_limit = EDIT_FILE_LIMIT
 
--- whether a copy of a router file has the name of a file that is read, or of another copy
+-- whether a copy of a router file would have the name of a file that is read, or of another copy
 abbrev pub has_copy_clash : ApplyWords → Document → Bool
 has_copy_clash words doc =
     clashes (words.document ∷ doc.routers) (copy_names words.suffix doc.routers)
@@ -41,7 +41,7 @@ has_copy_clash words doc =
 abbrev pub edit_texts : ApplyWords → Files → List (List ℕ)
 edit_texts words files = line_texts (bytes_at files words.edits)
 
--- those of these edits that the edit file names
+-- the edits of this list that the edit file names
 abbrev pub named_edits : ApplyWords → Files → Network → List Edit → List Edit
 named_edits words files net list = chosen_of list (chosen_by net list (edit_texts words files))
 
@@ -71,13 +71,13 @@ pub record RefusesRouterFiles (words : ApplyWords) (files : Files) (r : FileRefu
   pub ready : IsReady words files doc
   pub refused : IsFilesRefusal Editing [] words.document files r
 
--- they have a network
+-- the document is ready with its edit file, and it and its router files have a network
 pub record IsReadyWithNetwork (words : ApplyWords) (files : Files) (doc : Document)
     (net : Network) : Type 0 where
   pub ready : IsReady words files doc
   pub input : HoldsInput Editing [] words.document files doc net
 
--- these are the edits of a network, which does not have too many classes or edits
+-- the list has the edits of the network, and there are not too many classes or edits
 pub record AreFewEdits (net : Network) (doc : Document) (list : List Edit) : Type 0 where
   pub are : AreEdits net doc list
   pub few : length list ≤ EDIT_LIMIT
@@ -91,8 +91,8 @@ pub record PassesLimit (words : ApplyWords) (net : Network) (doc : Document)
   pub many : NamesLimit net doc (faults.Limit what count)
   pub told : r ≡ refusal_of words.document 0 (Limit what count)
 
--- a line of this text names no edit of the network, or one that a line before names, and it is the
--- first such line
+-- a line of this text names no edit of the network, or one that an earlier line names, and it is
+-- the first such line
 pub record HasWrongLine (words : ApplyWords) (net : Network) (doc : Document) (text : List ℕ)
     (r : FileRefusal) : Type 0 where
   pub list : List Edit
@@ -101,7 +101,7 @@ pub record HasWrongLine (words : ApplyWords) (net : Network) (doc : Document) (t
   pub wrong : IsWrongLine net list (line_texts text) number
   pub told : r ≡ refusal_of words.edits number EditLine
 
--- they have a network, and its classes or its edits are too many
+-- the document and its files have a network with too many classes or edits
 pub record RefusesEditCounts (words : ApplyWords) (files : Files) (r : FileRefusal) : Type 0 where
   pub doc : Document
   pub net : Network
@@ -109,7 +109,8 @@ pub record RefusesEditCounts (words : ApplyWords) (files : Files) (r : FileRefus
   pub valid : IsValid net
   pub passes : PassesLimit words net doc r
 
--- they have a network with few classes and edits, and a line of the edit file is wrong
+-- the document and its files have a network with few classes and edits, and a line of the edit file
+-- is wrong
 pub record RefusesLine (words : ApplyWords) (files : Files) (r : FileRefusal) : Type 0 where
   pub doc : Document
   pub net : Network
@@ -124,8 +125,8 @@ IsReadyRefusal words files r =
     IsDocumentRefusal words.document files r ⊎
     (RefusesNames words files r ⊎ RefusesEditFile words files r)
 
--- The first refusal: one of these; of the router files and their network; of the number of classes
--- or edits; or of a line of the edit file.
+-- The first refusal: one before the router files are read; of the router files and their network;
+-- of the number of classes or edits; or of a line of the edit file.
 abbrev pub IsApplyRefusal : ApplyWords → Files → FileRefusal → Type 0
 IsApplyRefusal words files r =
     IsReadyRefusal words files r ⊎
@@ -138,9 +139,9 @@ pub record WritesCopies (words : ApplyWords) (done : Done) : Type 0 where
   pub copies : All (λ write. IsCopyName words.suffix write.0) done.writes
   pub text : done.text ≡ wrote_lines done.writes
 
--- The answer: each line of the edit file names an edit of the network, no edit twice; of each
--- router file that these edits change a copy is written, which is its patch, and a line prints its
--- name.
+-- The answer: each line of the edit file names an edit of the network, no edit twice; a copy is
+-- written of each router file that these edits change, which is its patch, and a line prints the
+-- copy's name.
 pub record IsApplied (words : ApplyWords) (files : Files) (done : Done) : Type 0 where
   pub doc : Document
   pub built : Built
@@ -155,7 +156,7 @@ pub record IsApplied (words : ApplyWords) (files : Files) (done : Done) : Type 0
   pub status : done.status ≡ 0
 
 -- The document and its files have a network, the names of the copies are free, and each line of the
--- edit file names one of its edits, no two the same.
+-- edit file names one of its edits, none twice.
 pub record CanBeApplied (words : ApplyWords) (files : Files) : Type 0 where
   pub doc : Document
   pub net : Network
@@ -164,9 +165,9 @@ pub record CanBeApplied (words : ApplyWords) (files : Files) : Type 0 where
   pub edits : AreFewEdits net doc list
   pub lines : AreEditLines net list (edit_texts words files)
 
--- And the router files as the command left them are the patches by these edits of those that were
--- read; these patches, read again, have exactly the network after these edits. All names but those
--- of the copies of changed files hold what they held.
+-- The router files as the command left them are the patches, by the edits of the edit file, of
+-- those that were read; these patches, read again, have exactly the network after these edits. All
+-- names but those of the copies of changed files hold what they held.
 pub record IsLeftApplied (words : ApplyWords) (before after : Files) : Type 0 where
   pub doc : Document
   pub built : Built

@@ -1,4 +1,4 @@
--- What the steps of the command answer.
+-- The answers of the steps of `apply`.
 use Rattle.std.specs.Prelude.{◌≡◌, ◌⊎◌, ℕ, List, Result, Ok, Err}
 use Rattle.arc_outside.specs.Files.{Files}
 use Rattle.net_model.specs.declared.policies.Document.{Document}
@@ -25,7 +25,7 @@ pub record HoldsReady (words : ApplyWords) (files : Files) (ready : Ready) : Typ
   pub is_ready : IsReady words files ready.doc
   pub text : ready.text.items ≡ bytes_at files words.edits
 
--- what reading the document and the edit file answers
+-- the answer of reading the document and the edit file: both, or the first refusal
 abbrev pub ReadsReady : ApplyWords → Files → Result Ready Stop → Type 0
 ReadsReady words files result = Gives (IsReadyRefusal words files) (HoldsReady words files) result
 
@@ -37,7 +37,8 @@ pub record IsChoice (net : Network) (doc : Document) (text : List ℕ)
   pub lines : AreEditLines net chosen.list (line_texts text)
   pub flags : chosen.flags ≡ chosen_by net chosen.list (line_texts text)
 
--- what choosing the edits that the text names answers
+-- the answer of choosing the edits that the text names: these edits, or the refusal of a count or a
+-- line
 abbrev pub Chooses : ApplyWords → Network → Document → List ℕ → Result Chosen Stop → Type 0
 Chooses words net doc text (Ok chosen) = IsChoice net doc text chosen
 Chooses words net doc text (Err (stops.Refused r)) =

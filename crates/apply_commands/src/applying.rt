@@ -39,7 +39,7 @@ struct Chosen {
     pub flags: List<bool>,
 }
 
-/// Whether a copy has the name of a file that is read, or of another copy.
+/// Whether a copy would have the name of a file that is read, or of another copy.
 fn has_clash(alloc: Global, words: &ApplyWords, doc: &Document) -> Result<bool, Memory>
     ensures { IfOk result (λ clash. clash ≡ has_copy_clash words.now doc.now) }
 {
@@ -64,8 +64,7 @@ fn read_ready<S: Store>(alloc: Global, words: &ApplyWords, store: &mut S) -> Res
     Ok(Ready { doc, text })
 }
 
-/// The edits of the network, and which of them the text names; or the refusal of a count or of a
-/// line.
+/// The edits of the network, and which of them the text names; or the refusal of a count or a line.
 fn choose(
     alloc: Global,
     words: &ApplyWords,
@@ -92,7 +91,7 @@ fn choose(
     }
 }
 
-/// The copies of the files that the edits change, and a line for each.
+/// Copies of the files that the edits change, and a line of text for each.
 fn written(
     alloc: Global,
     suffix: &Name,
@@ -121,7 +120,7 @@ fn written(
     })
 }
 
-/// Puts the edits that an edit file names into copies of the router files that they change.
+/// Makes copies of the router files, with the edits that an edit file names.
 pub fn apply<S: Store>(alloc: Global, words: &ApplyWords, store: &mut S) -> Result<Done, Stop>
     ensures answer { Answers (WritesCopies words.now) (IsApplyRefusal words.now)
         (IsApplied words.now) (S.held store.old) result }

@@ -13,8 +13,8 @@ pub fn apply_is_told()
         IsTold (IsApplyRefusal words) (IsApplied words) (TellsApply words) }
 {}
 
-/// The words and the files give at most one first refusal of `apply`, and never both a refusal and
-/// an answer.
+/// The words and the files give at most one first refusal of `apply`, and never a refusal and an
+/// answer.
 pub fn apply_is_determined()
     ensures one_refusal { (words : ApplyWords) (files : Files) (r s : FileRefusal)
         → IsApplyRefusal words files r → IsApplyRefusal words files s → r ≡ s }

@@ -1,6 +1,6 @@
-//! The command `apply`: it writes copies of the router files with an operator's list of edits in
-//! them, byte for byte the old files but for what the edits insert. Its spec file has the first
-//! refusal, the answer, and what the status says.
+//! The command `apply`: it writes copies of the router files with the edits of an operator's list,
+//! byte for byte the old files but for what the edits insert. Its spec file has the first refusal,
+//! the answer, and what the status says.
 #![tactic(auto)]
 
 mod applying;

@@ -17,7 +17,8 @@ none_is_natural : (limit : ℕ) (word : List ℕ) → is_natural limit word ≡ 
 none_is_natural limit word e = sym (cond-false (is_natural limit word) (Some (value_after 0 word)) None e)
 
 -- a byte that is no digit
-pub no_digit : (limit : ℕ) (word : List ℕ) (i b : ℕ) → i < length word → b ≡ get_or word i 0 → all_ascii_digits (drop i word) ≡ all_ascii_digits word → is_ascii_digit b ≡ false → None ≡ natural limit word
+pub no_digit : (limit : ℕ) (word : List ℕ) (i b : ℕ) → i < length word → b ≡ get_or word i 0 → all_ascii_digits (drop i word) ≡ all_ascii_digits word →
+    is_ascii_digit b ≡ false → None ≡ natural limit word
 no_digit limit word i b within b_is digits off_here =
     let here : all_ascii_digits (drop i word) ≡ (is_ascii_digit (get_or word i 0) && all_ascii_digits (drop (i + 1) word)) = ap all_ascii_digits (drop_more word i 0 within) in
     let off : is_ascii_digit (get_or word i 0) ≡ false = rw b_is at off_here in
@@ -25,7 +26,8 @@ no_digit limit word i b within b_is digits off_here =
     none_is_natural limit word (and_right (is_filled word) _ (and_left _ (nat_le (value_after 0 word) limit) bad))
 
 -- a digit with which the number passes the limit
-pub too_large : (limit value : ℕ) (word : List ℕ) (i b : ℕ) → i < length word → b ≡ get_or word i 0 → value_after value (drop i word) ≡ value_after 0 word → nat_le (with_digit value b) limit ≡ false → None ≡ natural limit word
+pub too_large : (limit value : ℕ) (word : List ℕ) (i b : ℕ) → i < length word → b ≡ get_or word i 0 → value_after value (drop i word) ≡ value_after 0 word →
+    nat_le (with_digit value b) limit ≡ false → None ≡ natural limit word
 too_large limit value word i b within b_is same large =
     let here : value_after value (drop i word) ≡ value_after (with_digit value (get_or word i 0)) (drop (i + 1) word) = ap (value_after value) (drop_more word i 0 within) in
     let grown : with_digit value b ≤ value_after 0 word = rw (b_is, ← same, here) (value_after-ge (with_digit value (get_or word i 0)) (drop (i + 1) word)) in
@@ -37,6 +39,8 @@ none_is_off true n e = absurd (none-some n e)
 none_is_off false n e = refl
 
 -- where the next digit is refused, the word is no number within the limit
-pub refused : (limit value : ℕ) (word : List ℕ) (i b : ℕ) → i < length word → b ≡ get_or word i 0 → all_ascii_digits (drop i word) ≡ all_ascii_digits word → value_after value (drop i word) ≡ value_after 0 word → None ≡ (if is_ascii_digit b && nat_le (with_digit value b) limit then Some (with_digit value b) else None) → None ≡ natural limit word
+pub refused : (limit value : ℕ) (word : List ℕ) (i b : ℕ) → i < length word → b ≡ get_or word i 0 → all_ascii_digits (drop i word) ≡ all_ascii_digits word →
+    value_after value (drop i word) ≡ value_after 0 word → None ≡ (if is_ascii_digit b && nat_le (with_digit value b) limit then Some (with_digit value b) else None) → None ≡ natural limit word
 refused limit value word i b within b_is digits same e =
-    ⊎_elim (λ off. no_digit limit word i b within b_is digits off) (λ large. too_large limit value word i b within b_is same large) (and_cases (is_ascii_digit b) (nat_le (with_digit value b) limit) (none_is_off _ _ e))
+    ⊎_elim (λ off. no_digit limit word i b within b_is digits off) (λ large. too_large limit value word i b within b_is same large) (and_cases
+    (is_ascii_digit b) (nat_le (with_digit value b) limit) (none_is_off _ _ e))

@@ -1,5 +1,6 @@
 -- Things put together by their numbers, one after another.
-use Rattle.std.proofs.Common.{◌≡◌, ◌≢◌, ℕ, ◌+◌, ◌<◌, ◌≤◌, ◌==◌, ◌||◌, Bool, true, false, Option, Some, None, List, [], ◌∷◌, ◌++◌, length, get_or, set, take, map, replicate, refl, sym, not, unwrap_or, ◌∙◌, ap, arith, length-set, if◌then◌else◌}
+use Rattle.std.proofs.Common.{◌≡◌, ◌≢◌, ℕ, ◌+◌, ◌<◌, ◌≤◌, ◌==◌, ◌||◌, Bool, true, false, Option, Some, None, List, []}
+use Rattle.std.proofs.Common.{◌∷◌, ◌++◌, length, get_or, set, take, map, replicate, refl, sym, not, unwrap_or, ◌∙◌, ap, arith, length-set, if◌then◌else◌}
 use Rattle.std.specs.List.{filter_map, cons_option, list_any, flat_map, range_with_len}
 use Rattle.std.proofs.lemmas.Bool.{eqb-true, eqb-false, false≢true}
 use Rattle.std.proofs.lemmas.List.{append-nil, take_more, get_or-set_same, get_or-set_other, take_all, length-replicate, get_or-replicate}
@@ -41,7 +42,8 @@ pub grouped_more : {X : Type 0} (count : ℕ) (things : List (ℕ × X)) (i numb
     next ≡ map (λ k. of_number k (take (i + 1) things)) (range_with_len 0 count)
 grouped_more {X} count things i number x now next within is was put =
     put ∙ ap (λ l. set l number (get_or l number [] ++ x ∷ [])) was ∙
-    told_set (λ k. of_number k (take i things)) count number (get_or (map (λ k. of_number k (take i things)) (range_with_len 0 count)) number [] ++ x ∷ []) [] (λ k. of_number k (take (i + 1) things)) here elsewhere
+    told_set (λ k. of_number k (take i things)) count number (get_or (map (λ k. of_number k (take i things)) (range_with_len 0 count)) number [] ++ x ∷ []) []
+    (λ k. of_number k (take (i + 1) things)) here elsewhere
   where
     more : (k : ℕ) → of_number k (take (i + 1) things) ≡ of_number k (take i things) ++ cons_option (if_number k (number, x)) []
     more k = picked_more (if_number k) things i (number, x) within is
@@ -94,7 +96,8 @@ marked_more count numbers i number now next within is was put =
         none false e = more k ∙ ap (λ b. list_any (λ n. n == k) (take i numbers) || b) e ∙ or_false (list_any (λ n. n == k) (take i numbers))
 
 -- one empty group more
-pub empties_more : {X : Type 0} (n : ℕ) (now next : List (List X)) (x : List X) → x ≡ [] → now ≡ map (λ k. []) (range_with_len 0 n) → next ≡ now ++ x ∷ [] → next ≡ map (λ k. []) (range_with_len 0 (n + 1))
+pub empties_more : {X : Type 0} (n : ℕ) (now next : List (List X)) (x : List X) → x ≡ [] → now ≡ map (λ k. []) (range_with_len 0 n) → next ≡ now ++ x ∷ [] →
+    next ≡ map (λ k. []) (range_with_len 0 (n + 1))
 empties_more {X} n now next x none was grown =
     let f : ℕ → List X = λ k. [] in
     grown ∙ ap (λ l. l ++ x ∷ []) was ∙ ap (λ y. map f (range_with_len 0 n) ++ y ∷ []) none ∙ sym (map-range_with_len_more f 0 n n (omega arith))
@@ -132,7 +135,8 @@ told_at f count k xs told l =
     slice_get-get_or xs k (f k) within ∙ ap Some (ap (λ ys. get_or ys k (f k)) told ∙ get_or-map-range_with_len f 0 count k k (f k) l (omega arith))
 
 -- a thing that is picked unless a list is empty
-pub picked_unless_empty : {X Y : Type 0} (groups : List (List X)) (f : ℕ → List X) (count k : ℕ) (filled b : Bool) (o : Option Y) → IsTableOf count f groups → k < count → filled ≡ not (is_empty (unwrap_or (slice_get groups k) [])) →
+pub picked_unless_empty : {X Y : Type 0} (groups : List (List X)) (f : ℕ → List X) (count k : ℕ) (filled b : Bool) (o : Option Y) → IsTableOf count f groups →
+    k < count → filled ≡ not (is_empty (unwrap_or (slice_get groups k) [])) →
     filled ≡ b → (if b then o else None) ≡ (if is_empty (f k) then None else o)
 picked_unless_empty {X} {Y} groups f count k filled b o told l are is = by (is_empty (f k)) refl b refl
   where
@@ -146,11 +150,13 @@ picked_unless_empty {X} {Y} groups f count k filled b o told l are is = by (is_e
     by false p false q = absurd (false≢true (sym (is ∙ q) ∙ same ∙ ap not p))
 
 -- the things of a group, as the table of groups has them
-pub things_told : {X : Type 0} (groups : List (List X)) (f : ℕ → List X) (count k : ℕ) (things : List X) → IsTableOf count f groups → k < count → things ≡ unwrap_or (slice_get groups k) [] → things ≡ f k
+pub things_told : {X : Type 0} (groups : List (List X)) (f : ℕ → List X) (count k : ℕ) (things : List X) → IsTableOf count f groups → k < count →
+    things ≡ unwrap_or (slice_get groups k) [] → things ≡ f k
 things_told groups f count k things told l are = are ∙ ap (λ o. unwrap_or o []) (told_at f count k groups told l)
 
 -- whether a group has things, as the table of groups tells
-pub filled_told : {X : Type 0} (groups : List (List X)) (f : ℕ → List X) (count k : ℕ) (filled : Bool) → IsTableOf count f groups → k < count → filled ≡ not (is_empty (unwrap_or (slice_get groups k) [])) → filled ≡ not (is_empty (f k))
+pub filled_told : {X : Type 0} (groups : List (List X)) (f : ℕ → List X) (count k : ℕ) (filled : Bool) → IsTableOf count f groups → k < count →
+    filled ≡ not (is_empty (unwrap_or (slice_get groups k) [])) → filled ≡ not (is_empty (f k))
 filled_told groups f count k filled told l are = are ∙ ap (λ o. not (is_empty (unwrap_or o []))) (told_at f count k groups told l)
 
 pub told_within : {X : Type 0} (f : ℕ → X) (count k : ℕ) (xs : List X) → IsTableOf count f xs → k < count → k < length xs

@@ -1,5 +1,6 @@
 -- How the lines of a text and the words of a line begin.
-use Rattle.std.proofs.Common.{◌≡◌, ℕ, suc, zero, ◌+◌, ◌<◌, ◌≤◌, Bool, true, false, not, List, [], ◌∷◌, length, take, drop, filter, refl, ap, sym, ◌∙◌, arith, ⊎_elim, one-add, Some, None, position, take_all, get_or, All, drop-drop, add-one, ap₂, length-take, length-drop}
+use Rattle.std.proofs.Common.{◌≡◌, ℕ, suc, zero, ◌+◌, ◌<◌, ◌≤◌, Bool, true, false, not, List, [], ◌∷◌, length, take, drop, filter}
+use Rattle.std.proofs.Common.{refl, ap, sym, ◌∙◌, arith, ⊎_elim, one-add, Some, None, position, take_all, get_or, All, drop-drop, add-one, ap₂, length-take, length-drop}
 use Rattle.std.specs.List.{position_or_len, onto_first, slice_split}
 use Rattle.std.proofs.lemmas.Bool.{cases_Bool, not-true, false≢true}
 use Rattle.std.proofs.lemmas.Bool.Decides.{nat_tests}
@@ -111,7 +112,8 @@ module _ (line rest : List ℕ) (i : ℕ) (start : position (λ b. not (is_blank
       let some : 0 < length (take j rest) = omega (arith, length-take j rest, end_is_later j e) in
       let parts : slice_split is_blank rest ≡ take j rest ∷ slice_split is_blank (drop (j + 1) rest) = rw (place.0) (slice_split_first is_blank rest 0 (omega (arith, place))) in
       let rest_words : words rest ≡ take j rest ∷ words (drop (j + 1) rest) = ap (filter is_filled) parts ∙ filled_front (take j rest) (slice_split is_blank (drop (j + 1) rest)) some in
-      let next : words (drop (j + 1) rest) ≡ words after = words_at_blank (get_or rest j 0) (drop (j + 1) rest) (position-Some is_blank rest j 0 e).1 ∙ ap words (sym (after_is ∙ drop_more rest j 0 place.1)) in
+      let next : words (drop (j + 1) rest) ≡ words after = words_at_blank (get_or rest j 0) (drop (j + 1) rest) (position-Some is_blank rest j 0 e).1
+      ∙ ap words (sym (after_is ∙ drop_more rest j 0 place.1)) in
       words_from_start line i start ∙ ap words (sym rest_is) ∙ rest_words ∙ ap₂ (λ w ws. w ∷ ws) (sym word_is) next
 
   pub whole_word : (word after : List ℕ) → position is_blank rest ≡ None → word ≡ take (length rest) rest → after ≡ drop (length rest) rest → words line ≡ word ∷ words after

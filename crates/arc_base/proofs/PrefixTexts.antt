@@ -1,5 +1,7 @@
 -- Which prefix a text writes.
-use Rattle.std.proofs.Common.{◌≡◌, ℕ, ◌+◌, ◌-◌, ◌%◌, ◌^◌, ◌<◌, ◌≤◌, ◌==◌, Bool, true, false, List, [], ◌∷◌, ◌++◌, length, get_or, take, drop, Option, Some, None, option_and_then, decimal, codes, position, refl, sym, ap, subst, ◌∙◌, arith, lt-ltb, le-leb, eq-eqb, ne_eqb, append_assoc, true≢false, length-append, drop-cons, add-one, take-append-drop, IsSome, IfSome, ◌↔◌}
+use Rattle.std.proofs.Common.{◌≡◌, ℕ, ◌+◌, ◌-◌, ◌%◌, ◌^◌, ◌<◌, ◌≤◌, ◌==◌, Bool, true, false, List, [], ◌∷◌, ◌++◌, length, get_or, take, drop, Option, Some, None}
+use Rattle.std.proofs.Common.{option_and_then, decimal, codes, position, refl, sym, ap, subst, ◌∙◌, arith, lt-ltb, le-leb, eq-eqb, ne_eqb, append_assoc, true≢false, length-append, drop-cons}
+use Rattle.std.proofs.Common.{add-one, take-append-drop, IsSome, IfSome, ◌↔◌}
 use Rattle.std.proofs.lemmas.Bool.{and_from, eqb-true}
 use Rattle.std.proofs.lemmas.List.{take_at, drop_at}
 use Rattle.std.proofs.lemmas.List.Quantifiers.{position-Some}

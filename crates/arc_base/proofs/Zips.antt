@@ -57,7 +57,8 @@ AllZip-push R (x' ∷ xs) [] x y before next = absurd before
 AllZip-push R (x' ∷ xs) (y' ∷ ys) x y before next = (before.0, AllZip-push R xs ys x y before.1 next)
 
 -- one more pair, for the item at a place
-pub AllZip-next : {A B : Type 0} (R : A → B → Type 0) (xs : List A) (ys : List B) (k : ℕ) (y : B) → k < length xs → AllZip R (take k xs) ys → IfSome (slice_get xs k) (λ x. R x y) → AllZip R (take (k + 1) xs) (ys ++ y ∷ [])
+pub AllZip-next : {A B : Type 0} (R : A → B → Type 0) (xs : List A) (ys : List B) (k : ℕ) (y : B) → k < length xs → AllZip R (take k xs) ys →
+    IfSome (slice_get xs k) (λ x. R x y) → AllZip R (take (k + 1) xs) (ys ++ y ∷ [])
 AllZip-next R [] ys k y within before next = absurd (omega arith)
 AllZip-next {A} {B} R (x ∷ xs) ys k y within before next =
     let item : A = get_or (x ∷ xs) k x in

@@ -1,6 +1,6 @@
 //! Cutting a text at a byte, in one look at each byte up to there.
-ghost use Rattle.std.specs.Prelude.{◌≡◌, ◌==◌, option_map, position, IfSome, ◌<◌, length};
 ghost use Rattle.arc_base.specs.Cuts.{cut_at};
+ghost use Rattle.std.specs.Prelude.{◌≡◌, ◌==◌, option_map, position, IfSome, ◌<◌, length};
 
 /// The parts of a text before and after the first of these bytes, if there is one.
 pub fn cut_at(text: &[u8], byte: u8) -> Option<(&[u8], &[u8])>

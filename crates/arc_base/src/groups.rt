@@ -1,22 +1,22 @@
 //! Items that each have a number, grouped by their numbers.
+ghost use Rattle.arc_base.specs.Numbered.{of_number, by_number, is_empty, IsTableOf};
+ghost use Rattle.std.specs.List.{list_any};
 ghost use Rattle.std.specs.Prelude.{◌≡◌, ◌==◌, ◌++◌, ◌∷◌, [], true, slice_get, slice_set};
 ghost use Rattle.std.specs.Prelude.{slice_index_or, unwrap_or, not, IfOk, OnOk};
-ghost use Rattle.std.specs.List.{list_any};
-ghost use Rattle.arc_base.specs.Numbered.{of_number, by_number, is_empty, IsTableOf};
 
 use crate::memory::Memory;
 use std::alloc::Global;
 use std::marker::Model;
 
-/// The things with one number.
+/// The items with one number.
 #[derive(Debug, Drop)]
 pub struct Group<T> {
     items: Vec<T>,
 }
 
 impl<T> Model for Group<T> {
-    ghost use Rattle.std.specs.Prelude.{List as Items};
     ghost use Rattle.std.specs.Coded.{coded_list};
+    ghost use Rattle.std.specs.Prelude.{List as Items};
 
     ghost Value = { Items T };
 
@@ -107,7 +107,7 @@ where
     Ok(list)
 }
 
-/// Puts things at the end.
+/// Appends items.
 pub fn append<T>(list: &mut Vec<T>, things: &[T]) -> Result<(), Memory>
 where
     T: Copy + Drop,

@@ -1,8 +1,8 @@
 //! The lines of a text and the words of a line, one by one from the front.
-ghost use Rattle.std.specs.Prelude.{◌≡◌, ◌<◌, ◌≤◌, ◌+◌, [], ◌∷◌, length, IfSome, IfNone, not};
-ghost use Rattle.std.specs.List.{position};
 ghost use Rattle.arc_base.specs.TextLines.{lines, without_return, is_line_feed};
 ghost use Rattle.arc_base.specs.Words.{words, is_blank};
+ghost use Rattle.std.specs.List.{position};
+ghost use Rattle.std.specs.Prelude.{◌≡◌, ◌<◌, ◌≤◌, ◌+◌, [], ◌∷◌, length, IfSome, IfNone, not};
 
 /// Whether a byte separates words: a space or a tab.
 fn is_blank(byte: u8) -> bool

@@ -1,7 +1,7 @@
 //! The form of the names of routers and lists.
-ghost use Rattle.std.specs.Prelude.{◌≡◌};
-ghost use Rattle.std.specs.List.{list_all};
 ghost use Rattle.arc_base.specs.NameForms.{is_name, is_name_byte};
+ghost use Rattle.std.specs.List.{list_all};
+ghost use Rattle.std.specs.Prelude.{◌≡◌};
 
 use crate::limits::NAME_LIMIT;
 

@@ -1,8 +1,8 @@
 //! Numbers, addresses and prefixes as text: in decimal digits with no zero before another digit,
 //! addresses in four bytes with dots between them, prefixes as `A/L` (RFC 4632).
-ghost use Rattle.std.specs.Prelude.{◌≡◌, ◌↔◌, ◌++◌, Some, decimal, IsTrue, OnOk};
 ghost use Rattle.arc_base.specs.PrefixText.{BeginsAsNumber, number_of, address_of, prefix_of};
 ghost use Rattle.arc_base.specs.PrefixText.{address_text, prefix_text};
+ghost use Rattle.std.specs.Prelude.{◌≡◌, ◌↔◌, ◌++◌, Some, decimal, IsTrue, OnOk};
 
 use crate::cut::cut_at;
 use crate::memory::Memory;
@@ -11,8 +11,7 @@ use std::alloc::Global;
 use std::net::Ipv4Addr;
 use std::str;
 
-/// The number that is written so, if there is one. No sign, no blank and no leading zero is
-/// allowed.
+/// Parses a decimal number: no sign, no blank and no leading zero.
 pub fn read_number(text: &[u8]) -> Option<u64>
     ensures { result ≡ number_of text.now }
 {
@@ -32,7 +31,7 @@ fn begins_as_number(text: &[u8]) -> bool
     matches!(text, [b'0'] | [b'1'..=b'9', ..])
 }
 
-/// The address that is written so, if there is one.
+/// Parses an IPv4 address in dotted decimal.
 pub fn read_address(text: &[u8]) -> Option<u32>
     ensures { result ≡ address_of text.now }
 {
@@ -42,7 +41,7 @@ pub fn read_address(text: &[u8]) -> Option<u32>
     }
 }
 
-/// The prefix that is written so, if there is one. It has no bit past its length.
+/// Parses a prefix, as `10.0.0.0/8`. It has no bit past its length.
 pub fn read_prefix(text: &[u8]) -> Option<Prefix>
     ensures { result ≡ prefix_of text.now }
 {

@@ -1,6 +1,6 @@
 //! The words for why input is refused, and for why a certificate or a proof is rejected.
-ghost use Rattle.std.specs.Prelude.{◌≡◌, IfOk};
 ghost use Rattle.arc_base.specs.ReasonWords.{certificate_word, count_word, kind_words};
+ghost use Rattle.std.specs.Prelude.{◌≡◌, IfOk};
 
 use crate::certificate::CertKind;
 use crate::refusal::{Kind, LimitKind};

@@ -1,8 +1,8 @@
 //! The numbers that words write.
+ghost use Rattle.arc_base.specs.WordNumbers.{natural, number, with_digit};
+ghost use Rattle.std.specs.Char.{is_ascii_digit};
 ghost use Rattle.std.specs.Prelude.{◌≡◌, ◌<◌, ◌≤◌, ◌^◌, ◌&&◌, nat_le, if◌then◌else◌, IfSome};
 ghost use Rattle.std.specs.Prelude.{unsigned_abs};
-ghost use Rattle.std.specs.Char.{is_ascii_digit};
-ghost use Rattle.arc_base.specs.WordNumbers.{natural, number, with_digit};
 
 /// The number with one more digit, or `None` where the byte is no digit or the number is then above
 /// the limit.

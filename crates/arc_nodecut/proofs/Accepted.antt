@@ -1,4 +1,4 @@
--- A verdict is right for a policy where it is for the policy's ends in the network.
+-- A verdict is right for a policy if it is right for the policy's ends in the network.
 use Rattle.std.proofs.Common.{◌≡◌, ℕ, Bool, IsTrue, refl, sym, subst}
 use Rattle.std.specs.Prelude.{◌↔◌}
 use Rattle.arc_base.specs.declared.place.Link.{Link}
@@ -17,7 +17,7 @@ use Rattle.arc_nodecut.specs.declared.verdict.NodeVerdict.TheVariants.{Same, Dir
 use Rattle.arc_nodecut.specs.NodeWitnesses.{IsRightNodeVerdict, IsRightPast, IsRightPastFor}
 use Rattle.arc_nodecut.specs.Shown.{IsShown}
 
--- neither a denial nor a refusal
+-- the verdict is neither a denial nor a refusal
 abbrev pub IsOther : NodeVerdict → Type 0
 IsOther (Denied class) = ⊥
 IsOther (Refused p link) = ⊥
@@ -48,7 +48,7 @@ shown_right net valid policy k reach ends are v other at whole same_net same_cla
           tells.1 (shown.1 (kinds.1 (subst (λ (e : Ends). IsRightPastFor net e policy.kind (subject policy) v) same right.right))),
     )
 
--- what is neither a denial nor a refusal
+-- a verdict that is no denial and no refusal is one of the others
 pub is_other : (v : NodeVerdict) → ((class : Class) → v ≡ Denied class → ⊥) → ((p : Packet) (link : Link) → v ≡ Refused p link → ⊥) → IsOther v
 is_other Same no_denial no_refusal = tt
 is_other (Direct link) no_denial no_refusal = tt

@@ -44,7 +44,7 @@ module _ (net : Network) (to : Prefix) (routers : List Router) (side : List Bool
           (λ has. none (subst (Contains routers) (same_router hop.arc.head.router head hop.head_is) has)))),
     )
 
--- what the check of a cut looks at makes it right
+-- what the check of a cut tests makes the cut right
 module _ (net : Network) (ends : Ends) (routers : List Router) (side : List Bool) where
   pub parts_if : length side ≡ length net.routers → IsOn side (source_router ends) → (¬ IsOn side (target_router ends)) → All (IsOff side) routers →
       (b : Bool) → (IsTrue b ↔ ((link : ℕ) → KeepsBoth net ends.to routers side link)) → IsTrue b ↔ PartsAt net ends routers side
@@ -59,13 +59,14 @@ module _ (net : Network) (ends : Ends) (routers : List Router) (side : List Bool
     λ parts. tells.1 (λ link from_a arc is_arc routed over way on free. parts.closed arc is_arc routed on free),
   )
 
-  -- no link joins the ends where routers part them
+  -- no link joins the ends if the routers separate them
   unjoined : PartsAt net ends routers side → All (λ r. r.0 ≢ target_router ends) routers → (link : ℕ) → ¬ JoinsEnds net ends link
   unjoined parts apart link j =
       parts.target (subst (IsOn side) j.head (parts.closed j.arc j.is_arc j.routed (subst (IsOn side) (sym j.tail) parts.source)
       (λ has. All-contains (λ (r : Router). r.0 ≢ target_router ends) routers j.arc.head.router apart has j.head)))
 
-  pub cut_if : (k : ℕ) (whole of_policy : Class) → whole ≡ of_policy → (source_router ends ≡ target_router ends → ⊥) → IsStrictlyIncreasing (map (λ (r : Router). r.0) routers) → All (IsInner net ends) routers →
+  pub cut_if : (k : ℕ) (whole of_policy : Class) → whole ≡ of_policy → (source_router ends ≡ target_router ends → ⊥) →
+      IsStrictlyIncreasing (map (λ (r : Router). r.0) routers) → All (IsInner net ends) routers →
       length routers ≤ k → PartsAt net ends routers side → (b : Bool) → (IsTrue b ↔ IsClear net ends of_policy) → IsTrue b ↔ IsRightRouterCut net ends k whole routers side
   cut_if k whole of_policy same apart rising inner few parts b tells =
       let not_target : All (λ (r : Router). r.0 ≢ target_router ends) routers = λ i d low. (let at : IsInner net ends _ = inner i d low in at.not_target) in (

@@ -33,7 +33,7 @@ each_head Q (a ∷ arcs) all = (
   each_head Q arcs (λ router later. all router (there (head_router a) router (map head_router arcs) later)),
 )
 
--- a trail that repeats no router and has not just one link is a path that goes by other routers
+-- a trail that repeats no router and has more or less than one link is a path by routers between the ends
 pub goes_by_if : (net : Network) (ends : Ends) (path : LinkPath) → length path.links ≢ 1 → (b : Bool) →
     (IsTrue b ↔ IsTrailOnce net ends.to (source_router ends) path.links (target_router ends)) → IsTrue b ↔ GoesBy net ends path
 goes_by_if net ends path long b tells = (
@@ -46,7 +46,8 @@ module _ (net : Network) (valid : IsValid net) (ends : Ends) where
   path_of P shown trail = record { arcs = trail.arcs; links = trail.over; leads = trail.leads }
 
   -- a router that is passed is on the path's way, which its links name
-  passed_on : (shown : LinkPath) (arcs : List Arc) (path : IsPath net ends shown) → path.arcs ≡ arcs → (router : ℕ) → PassesRouter net ends shown router → Contains (routers_of (source_router ends) arcs) router
+  passed_on : (shown : LinkPath) (arcs : List Arc) (path : IsPath net ends shown) → path.arcs ≡ arcs → (router : ℕ) → PassesRouter net ends shown router →
+      Contains (routers_of (source_router ends) arcs) router
   passed_on shown arcs path is router passes =
       let same : passes.path.arcs ≡ path.arcs =
       one_way net ends.to valid (source_router ends) (target_router ends) (target_router ends) shown.links passes.path.arcs path.arcs passes.path.links path.links passes.path.leads path.leads in
@@ -100,7 +101,7 @@ module _ (net : Network) (valid : IsValid net) (ends : Ends) where
         let other : GoesBy net ends (get_or paths j d) = by j d within in
         off_of (get_or paths i d) (get_or paths j d) one.path other.path (pairs i j d less within)
 
-    -- what the check of paths looks at makes them right
+    -- what the check of paths tests makes them right
     pub apart_if : (k : ℕ) (whole : Class) → (source_router ends ≡ target_router ends → ⊥) → length paths ≡ k + 1 → All (GoesBy net ends) paths → AllPairs (GoesOff net ends) paths →
         (b : Bool) → (IsTrue b ↔ IsServed net ends whole) → IsTrue b ↔ IsRightApart net ends k whole paths
     apart_if k whole apart count by off b tells = (

@@ -12,7 +12,7 @@ use Rattle.arc_nodecut.specs.NodeWitnesses.{IsServed, IsRightSame, IsRightDirect
 use Rattle.arc_nodecut.specs.Judged.{IsJoin}
 use Rattle.arc_nodecut.proofs.Judging.{join_of, ends_of}
 
--- a class that passes is served exactly where it is clear
+-- a class that passes is served exactly if it is clear
 pub served_if : (net : Network) (ends : Ends) (whole : Class) → ((p : Packet) → IsOf whole p → Enters net ends p) × ((p : Packet) → IsOf whole p → Leaves net ends p) →
     (b : Bool) → (IsTrue b ↔ IsClear net ends whole) → IsTrue b ↔ IsServed net ends whole
 served_if net ends whole passes b tells = (
@@ -20,11 +20,12 @@ served_if net ends whole passes b tells = (
   λ served. tells.1 served.clear,
 )
 
-pub not_served : (net : Network) (ends : Ends) (whole : Class) (b : Bool) → (IsTrue b ↔ (((p : Packet) → IsOf whole p → Enters net ends p) × ((p : Packet) → IsOf whole p → Leaves net ends p))) → b ≡ false →
+pub not_served : (net : Network) (ends : Ends) (whole : Class) (b : Bool) →
+    (IsTrue b ↔ (((p : Packet) → IsOf whole p → Enters net ends p) × ((p : Packet) → IsOf whole p → Leaves net ends p))) → b ≡ false →
     IsTrue false ↔ IsServed net ends whole
 not_served net ends whole b tells off = (λ t. absurd (false≢true t), λ served. absurd (false≢true (sym off ∙ tells.1 (served.enters, served.leaves))))
 
--- the two yeses that show no path
+-- the two yes answers without paths
 pub same_if : (net : Network) (ends : Ends) (whole : Class) → source_router ends ≡ target_router ends → (b : Bool) → (IsTrue b ↔ IsServed net ends whole) → IsTrue b ↔ IsRightSame net ends whole
 same_if net ends whole together b tells = (λ t. record { served = tells.0 t; together = together }, λ right. tells.1 right.served)
 
@@ -39,5 +40,6 @@ direct_if net ends whole link apart join b tells =
 pub local_not_direct : (net : Network) (ends : Ends) (whole : Class) (link : Link) → source_router ends ≡ target_router ends → IsTrue false ↔ IsRightDirect net ends whole link
 local_not_direct net ends whole link together = (λ t. absurd (false≢true t), λ right. absurd (right.apart together))
 
-pub unjoined_not_direct : (net : Network) (ends : Ends) (whole : Class) (link : Link) → (IsJoin net ends.to (source_router ends) (target_router ends) link.0 → ⊥) → IsTrue false ↔ IsRightDirect net ends whole link
+pub unjoined_not_direct : (net : Network) (ends : Ends) (whole : Class) (link : Link) →
+    (IsJoin net ends.to (source_router ends) (target_router ends) link.0 → ⊥) → IsTrue false ↔ IsRightDirect net ends whole link
 unjoined_not_direct net ends whole link none = (λ t. absurd (false≢true t), λ right. absurd (none (join_of net ends 0 whole [] link.0 right.joins)))

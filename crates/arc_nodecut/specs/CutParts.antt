@@ -1,4 +1,4 @@
--- What is asked of each arc and router of a cut, one by one.
+-- What must hold of each arc and each router of a cut.
 use Rattle.std.specs.Prelude.{◌≡◌, ◌≢◌, ◌<◌, ℕ, Bool, List, length, Contains}
 use Rattle.arc_base.specs.declared.place.Router.{Router}
 use Rattle.net_model.specs.declared.rows.Network.{Network}
@@ -14,7 +14,7 @@ KeepsOver net to routers side link from_a =
     (arc : Arc) → IsArc net arc → IsRouted net to arc → arc.link ≡ link → arc.from_a ≡ from_a →
     IsOn side (tail_router arc) → (¬ Contains routers arc.head.router) → IsOn side (head_router arc)
 
--- both arcs of the link do
+-- both arcs of the link keep to the side, or lead to one of the routers
 abbrev pub KeepsBoth : Network → Prefix → List Router → List Bool → ℕ → Type 0
 KeepsBoth net to routers side link = (from_a : Bool) → KeepsOver net to routers side link from_a
 

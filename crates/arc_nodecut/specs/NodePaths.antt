@@ -1,4 +1,4 @@
--- Paths that keep off each other, as they are followed.
+-- Paths that share no router but their ends, judged arc by arc.
 use Rattle.std.specs.Prelude.{◌≡◌, ◌⊎◌, ℕ}
 use Rattle.net_model.specs.declared.rows.Network.{Network}
 use Rattle.net_model.specs.declared.verdicts.LinkPath.{LinkPath}
@@ -17,7 +17,7 @@ MayPass net ends path router =
 abbrev pub KeepsOff : Network → Ends → LinkPath → Arc → Type 0
 KeepsOff net ends path arc = MayPass net ends path (head_router arc)
 
--- the one path leads from source to target over routers that may be passed beside the other
+-- the one path leads from source to target by routers that may be passed beside the other
 abbrev pub GoesOff : Network → Ends → LinkPath → LinkPath → Type 0
 GoesOff net ends path other =
     IsTrail net ends.to (KeepsOff net ends other) (source_router ends) path.links

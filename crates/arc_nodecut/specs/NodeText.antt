@@ -1,5 +1,5 @@
 -- The text of an answer about failed routers: a head line, a line with the answer and the number of
--- lines to come, the lines of the witness, and an end line.
+-- lines that follow, the lines of the witness, and an end line.
 use Rattle.std.specs.Prelude.{ℕ, ◌+◌, List, [], ◌∷◌, ◌++◌, length, map, slice_get, codes, decimal}
 use Rattle.std.specs.List.{concat}
 use Rattle.std.specs.Option.{option_map_or}
@@ -29,23 +29,24 @@ abbrev pub cut_line : Network → List Router → List ℕ
 cut_line net routers = line (codes "cut") (map (router_word net) routers)
 
 -- the lines of the witness, with links counted from 1
-abbrev pub witness_lines : Network → NodeVerdict → List (List ℕ)
-witness_lines net Same = []
-witness_lines net (Direct link) = line (codes "arc") (decimal (link.0 + 1) ∷ []) ∷ []
-witness_lines net (Apart paths) = map path_line paths
-witness_lines net (Denied class) = line (codes "denied") (class_words class) ∷ []
-witness_lines net (Cut routers side) =
+abbrev pub node_witness_lines : Network → NodeVerdict → List (List ℕ)
+node_witness_lines net Same = []
+node_witness_lines net (Direct link) = line (codes "arc") (decimal (link.0 + 1) ∷ []) ∷ []
+node_witness_lines net (Apart paths) = map path_line paths
+node_witness_lines net (Denied class) = line (codes "denied") (class_words class) ∷ []
+node_witness_lines net (Cut routers side) =
     cut_line net routers ∷ line (codes "side") (side_words net.routers side) ∷ []
-witness_lines net (Refused p link) = refused_line p link ∷ []
+node_witness_lines net (Refused p link) = refused_line p link ∷ []
 
--- the line with how many routers may fail, the answer, and how many lines follow
-abbrev pub answer_line : ℕ → Network → NodeVerdict → List ℕ
-answer_line k net v =
+-- the line with the number of routers that may fail, the answer, and the number of lines that
+-- follow
+abbrev pub node_answer_line : ℕ → Network → NodeVerdict → List ℕ
+node_answer_line k net v =
     line (codes "reach-routers")
-    (decimal k ∷ answer_word v ∷ decimal (length (witness_lines net v)) ∷ [])
+    (decimal k ∷ answer_word v ∷ decimal (length (node_witness_lines net v)) ∷ [])
 
--- the whole text
+-- the whole text of a verdict under at most k failed routers
 abbrev pub nodes_text : Network → ℕ → NodeVerdict → List ℕ
 nodes_text net k v =
-    line (codes "arc-nodes") (codes "1" ∷ []) ++ answer_line k net v ++
-    concat (witness_lines net v) ++ line (codes "end") []
+    line (codes "arc-nodes") (codes "1" ∷ []) ++ node_answer_line k net v ++
+    concat (node_witness_lines net v) ++ line (codes "end") []

@@ -1,4 +1,4 @@
--- Which verdicts routers and links show to be right, besides denials and refusals.
+-- Which verdicts other than denials and refusals are right.
 use Rattle.std.specs.Prelude.{ℕ}
 use Rattle.net_model.specs.declared.policies.Class.{Class}
 use Rattle.net_model.specs.declared.rows.Network.{Network}
@@ -9,7 +9,7 @@ use Rattle.arc_nodecut.specs.declared.verdict.NodeVerdict.TheVariants.{Cut, Refu
 use Rattle.arc_nodecut.specs.NodeWitnesses.{IsRightSame, IsRightDirect, IsRightApart}
 use Rattle.arc_nodecut.specs.NodeWitnesses.{IsRightRouterCut}
 
--- the verdict is no denial and no refusal, and is right
+-- the verdict is neither a denial nor a refusal, and is right
 abbrev pub IsShown : Network → Ends → ℕ → Class → NodeVerdict → Type 0
 IsShown net ends k whole Same = IsRightSame net ends whole
 IsShown net ends k whole (Direct link) = IsRightDirect net ends whole link

@@ -1,11 +1,11 @@
-//! Whether the witness of a verdict under failed routers is right, found without a search.
-ghost use Rattle.std.specs.Prelude.{◌↔◌, IsTrue};
-ghost use Rattle.net_model.specs.Packets.{subject};
-ghost use Rattle.net_model.specs.Forwarding.{HasEnds};
-ghost use Rattle.net_model.specs.Validity.{IsValid};
-ghost use Rattle.witness_check.specs.Cases.{IsTold, ends_of};
+//! Whether the witness of a verdict under failed routers is right, checked without a search.
 ghost use Rattle.arc_nodecut.specs.NodeWitnesses.{IsRightNodeVerdict};
 ghost use Rattle.arc_nodecut.specs.Shown.{IsShown};
+ghost use Rattle.net_model.specs.Forwarding.{HasEnds};
+ghost use Rattle.net_model.specs.Packets.{subject};
+ghost use Rattle.net_model.specs.Validity.{IsValid};
+ghost use Rattle.std.specs.Prelude.{◌↔◌, IsTrue};
+ghost use Rattle.witness_check.specs.Cases.{IsTold, ends_of};
 
 use crate::apart::is_right_apart;
 use crate::cases::{is_right_direct, is_right_same};
@@ -16,8 +16,8 @@ use net_model::{Network, Policy, PolicyKind};
 use witness_check::Case;
 
 /// Whether the witness shows that the verdict on the policy under failed routers is right. By the
-/// laws beside it the verdict is then true. Each witness is looked through once, and no set of
-/// failed routers is tried.
+/// laws beside it the verdict is then true. Paths are compared pair by pair, and a cut is judged
+/// link by link; no set of failed routers is tried.
 pub fn accepts_nodes(net: &Network, policy: &Policy, v: &NodeVerdict) -> bool
     requires valid { IsValid net.now }
     requires ends { HasEnds net.now (subject policy.now) }
@@ -33,7 +33,7 @@ pub fn accepts_nodes(net: &Network, policy: &Policy, v: &NodeVerdict) -> bool
     }
 }
 
-/// Whether the case's own routers and links show that the verdict is right, which is no denial or
+/// Whether the case's routers and links show that the verdict is right; false for a denial or a
 /// refusal.
 fn is_shown(case: &Case<'_>, k: u32, v: &NodeVerdict) -> bool
     requires told { IsTold case.now }

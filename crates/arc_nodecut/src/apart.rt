@@ -1,17 +1,17 @@
-//! Whether paths share no router but their ends, without a search and without memory.
-ghost use Rattle.std.specs.Prelude.{◌↔◌, IsTrue, All, AllPairs};
+//! Whether paths share no router but their ends, without a search and without an allocation.
+ghost use Rattle.arc_nodecut.specs.NodePaths.{MayPass, KeepsOff, GoesOff};
+ghost use Rattle.arc_nodecut.specs.NodeWitnesses.{GoesBy, IsRightApart};
 ghost use Rattle.net_model.specs.Validity.{IsValid};
+ghost use Rattle.std.specs.Prelude.{◌↔◌, IsTrue, All, AllPairs};
 ghost use Rattle.witness_check.specs.Cases.{IsTold, ends_of};
 ghost use Rattle.witness_check.specs.Trails.{IsTrail};
-ghost use Rattle.arc_nodecut.specs.NodeWitnesses.{GoesBy, IsRightApart};
-ghost use Rattle.arc_nodecut.specs.NodePaths.{MayPass, KeepsOff, GoesOff};
 
 use crate::cases::is_served;
 use arc_base::{Link, List, Router};
 use net_model::LinkPath;
 use witness_check::Case;
 
-/// Whether the path goes by other routers than the ends, and by none of them twice.
+/// Whether the path passes routers between the ends, none of them twice.
 fn goes_by(case: &Case<'_>, path: &LinkPath) -> bool
     requires told { IsTold case.now }
     requires valid { IsValid case.now.net.now }
@@ -23,7 +23,7 @@ fn goes_by(case: &Case<'_>, path: &LinkPath) -> bool
     case.goes_once(path.links.slice())
 }
 
-/// Whether each of these paths does.
+/// Whether each of the paths passes routers between the ends, none of them twice.
 fn all_go_by(case: &Case<'_>, paths: &[LinkPath]) -> bool
     requires told { IsTold case.now }
     requires valid { IsValid case.now.net.now }
@@ -37,8 +37,8 @@ fn all_go_by(case: &Case<'_>, paths: &[LinkPath]) -> bool
     true
 }
 
-/// Whether another path may pass the router beside this one: it is one of the ends, or this one is
-/// a path that does not pass it.
+/// Whether another path may pass the router beside this one: it is one of the ends, or this path
+/// does not pass it.
 fn may_pass(case: &Case<'_>, path: &LinkPath, router: Router) -> bool
     requires told { IsTold case.now }
     requires valid { IsValid case.now.net.now }
@@ -53,7 +53,7 @@ fn may_pass(case: &Case<'_>, path: &LinkPath, router: Router) -> bool
     case.avoids(case.source.router, path.links.slice(), router)
 }
 
-/// Whether the links lead from the source to the target over routers that they may pass beside the
+/// Whether the links lead from the source to the target by routers that they may pass beside the
 /// other path.
 fn keeps_off(case: &Case<'_>, links: &[Link], other: &LinkPath) -> bool
     requires told { IsTold case.now }
@@ -104,8 +104,7 @@ fn are_apart(case: &Case<'_>, paths: &[LinkPath]) -> bool
     true
 }
 
-/// Whether there is one path more than routers may fail, each goes by other routers than the ends,
-/// and no two share any of these.
+/// Whether there are k + 1 paths, each by routers between the ends, and no two share one of these.
 pub(crate) fn is_right_apart(case: &Case<'_>, k: u32, paths: &List<LinkPath>) -> bool
     requires told { IsTold case.now }
     requires valid { IsValid case.now.net.now }

@@ -1,16 +1,16 @@
-//! The yeses that show no paths, judged without memory.
-ghost use Rattle.std.specs.Prelude.{◌↔◌, IsTrue, IfSome, IfNone};
-ghost use Rattle.net_model.specs.Forwarding.{source_router, target_router};
-ghost use Rattle.witness_check.specs.Cases.{IsTold, ends_of};
+//! Checks of the yes answers without paths, none of which allocates.
 ghost use Rattle.arc_nodecut.specs.Hops.{IsHop, IsNoHop};
 ghost use Rattle.arc_nodecut.specs.Judged.{IsJoin};
 ghost use Rattle.arc_nodecut.specs.NodeWitnesses.{IsServed, IsRightSame, IsRightDirect};
+ghost use Rattle.net_model.specs.Forwarding.{source_router, target_router};
+ghost use Rattle.std.specs.Prelude.{◌↔◌, IsTrue, IfSome, IfNone};
+ghost use Rattle.witness_check.specs.Cases.{IsTold, ends_of};
 
 use crate::hops::Hop;
 use arc_base::Link;
 use witness_check::Case;
 
-/// Whether the policy is clear, and each packet of it enters and leaves.
+/// Whether the policy is clear, and all its packets enter and leave.
 pub(crate) fn is_served(case: &Case<'_>) -> bool
     requires { IsTold case.now }
     ensures { IsTrue result ↔ IsServed case.now.net.now (ends_of case.now) case.now.whole }
@@ -60,7 +60,7 @@ fn joins(case: &Case<'_>, link: Link) -> bool
     joins_over(case, link, true) || joins_over(case, link, false)
 }
 
-/// Whether the answer is right that both ends are at one router.
+/// Whether it is right that both ends are at one router.
 pub(crate) fn is_right_same(case: &Case<'_>) -> bool
     requires { IsTold case.now }
     ensures { IsTrue result ↔ IsRightSame case.now.net.now (ends_of case.now) case.now.whole }
@@ -71,7 +71,7 @@ pub(crate) fn is_right_same(case: &Case<'_>) -> bool
     is_served(case)
 }
 
-/// Whether the answer is right that the link joins the ends.
+/// Whether it is right that the link joins the ends.
 pub(crate) fn is_right_direct(case: &Case<'_>, link: Link) -> bool
     requires { IsTold case.now }
     ensures { IsTrue result ↔

@@ -1,9 +1,9 @@
 //! Reach under failed routers. When a router fails, all its links fail. A policy is met under K
 //! failed routers if its ends share a router or a link, or K + 1 paths lead from source to target,
 //! no two of them through one router; else a cut of at most K routers separates the ends. The graph
-//! has two nodes for each router, so that paths over different links of it are paths through
-//! different routers. `accepts_nodes` is for callers of the library: `arcv` makes verdicts, and
-//! reads none again.
+//! has two nodes for each router, so that link-disjoint paths in it are router-disjoint paths of
+//! the network. `accepts_nodes` is for callers of the library: `arcv` makes verdicts, and reads
+//! none back.
 #![tactic(auto)]
 
 mod acceptance;

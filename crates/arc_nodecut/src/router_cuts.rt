@@ -1,22 +1,22 @@
-//! Whether routers part the ends, without a search and without memory.
-ghost use Rattle.std.specs.Prelude.{◌↔◌, ◌<◌, ◌-◌, ℕ, IsTrue, All, Contains, map};
-ghost use Rattle.std.specs.List.Sorted.{IsStrictlyIncreasing};
-ghost use Rattle.arc_nodecut.specs.NodeWitnesses.{PartsAt, IsRightRouterCut};
-ghost use Rattle.witness_check.specs.Cases.{IsTold, ends_of};
+//! Whether routers separate the ends, without a search and without an allocation.
 ghost use Rattle.arc_nodecut.specs.CutParts.{KeepsOver, KeepsBoth, IsInner, IsOff};
+ghost use Rattle.arc_nodecut.specs.NodeWitnesses.{PartsAt, IsRightRouterCut};
+ghost use Rattle.std.specs.List.Sorted.{IsStrictlyIncreasing};
+ghost use Rattle.std.specs.Prelude.{◌↔◌, ◌<◌, ◌-◌, ℕ, IsTrue, All, Contains, map};
+ghost use Rattle.witness_check.specs.Cases.{IsTold, ends_of};
 
 use crate::cases::hop;
 use arc_base::{Link, List, Router};
 use witness_check::{Case, is_on};
 
-/// Whether the router is one of these.
+/// Whether the router is among these.
 fn contains(routers: &[Router], router: Router) -> bool
     ensures { IsTrue result ↔ Contains routers.now router }
 {
     routers.iter().any(|r| r.0 == router.0)
 }
 
-/// Whether each router comes after the one before it.
+/// Whether the routers are in rising order, none twice.
 fn are_rising(routers: &[Router]) -> bool
     ensures { IsTrue result ↔ IsStrictlyIncreasing (map (λ r. r.0) routers.now) }
 {
@@ -50,7 +50,7 @@ fn is_inner(case: &Case<'_>, router: Router) -> bool
     router.0 != case.source.router.0 && router.0 != case.target.router.0
 }
 
-/// Whether each of the routers is.
+/// Whether each of the routers is one of the network, and neither end.
 fn are_inner(case: &Case<'_>, routers: &[Router]) -> bool
     ensures { IsTrue result ↔ All (IsInner case.now.net.now (ends_of case.now)) routers.now }
 {
@@ -62,8 +62,8 @@ fn are_inner(case: &Case<'_>, routers: &[Router]) -> bool
     true
 }
 
-/// Whether the routed arc over a link in one direction, if there is one, keeps to the side or leads
-/// to one of the routers.
+/// Whether the routed arc over a link in one direction, if there is one, does not lead from the
+/// side to a router off it that is not in the cut.
 fn keeps_over(
     case: &Case<'_>,
     routers: &[Router],
@@ -87,7 +87,7 @@ fn keeps_over(
     is_on(side, hop.head)
 }
 
-/// Whether both arcs of a link do.
+/// Whether both arcs of a link keep to the side or the cut.
 fn keeps_both(case: &Case<'_>, routers: &[Router], side: &List<bool>, link: Link) -> bool
     requires { IsTold case.now }
     ensures { IsTrue result ↔ KeepsBoth case.now.net.now case.now.to routers.now side.now link.0 }
@@ -98,7 +98,7 @@ fn keeps_both(case: &Case<'_>, routers: &[Router], side: &List<bool>, link: Link
     keeps_over(case, routers, side, link, false)
 }
 
-/// Whether all arcs do.
+/// Whether all arcs keep to the side or the cut.
 fn keeps_all(case: &Case<'_>, routers: &[Router], side: &List<bool>) -> bool
     requires { IsTold case.now }
     ensures { IsTrue result ↔
@@ -112,7 +112,7 @@ fn keeps_all(case: &Case<'_>, routers: &[Router], side: &List<bool>) -> bool
     true
 }
 
-/// Whether the routers part the ends, the source on this side of them.
+/// Whether the routers separate the ends, with the source on this side of them.
 fn parts_at(case: &Case<'_>, routers: &List<Router>, side: &List<bool>) -> bool
     requires { IsTold case.now }
     ensures { IsTrue result ↔ PartsAt case.now.net.now (ends_of case.now) routers.now side.now }
@@ -132,8 +132,7 @@ fn parts_at(case: &Case<'_>, routers: &List<Router>, side: &List<bool>) -> bool
     keeps_all(case, routers.slice(), side)
 }
 
-/// Whether the cut is right: rising routers, no more than may fail, that part the ends of a clear
-/// policy.
+/// Whether the cut is right: at most k rising routers that separate the ends of a clear policy.
 pub(crate) fn is_right_cut(
     case: &Case<'_>,
     k: u32,

@@ -1,10 +1,10 @@
-//! The text of an answer.
-ghost use Rattle.std.specs.Prelude.{◌≡◌, ◌++◌, ◌∷◌, [], codes, decimal, length, map, IfOk, OnOk};
-ghost use Rattle.std.specs.List.{concat};
+//! The text of a verdict on reach under failed routers.
+ghost use Rattle.arc_nodecut.specs.NodeText.{answer_word, router_word, cut_line};
+ghost use Rattle.arc_nodecut.specs.NodeText.{node_witness_lines, node_answer_line, nodes_text};
 ghost use Rattle.net_model.specs.declared.rows.Network.{Network};
 ghost use Rattle.policy_report.specs.Lines.{after_spaces, line};
-ghost use Rattle.arc_nodecut.specs.NodeText.{answer_word, router_word, cut_line, witness_lines};
-ghost use Rattle.arc_nodecut.specs.NodeText.{answer_line, nodes_text};
+ghost use Rattle.std.specs.List.{concat};
+ghost use Rattle.std.specs.Prelude.{◌≡◌, ◌++◌, ◌∷◌, [], codes, decimal, length, map, IfOk, OnOk};
 
 use crate::verdict::NodeVerdict;
 use arc_base::{Memory, Router};
@@ -15,8 +15,8 @@ use policy_report::{
 use std::alloc::Global;
 
 /// The text of a verdict under at most K failed routers: `arc-nodes 1`, the answer with the number
-/// of lines to come, the lines of the witness, and `end`. Links are counted from 1, and routers
-/// have their names.
+/// of lines that follow, the lines of the witness, and `end`. Links are counted from 1, and routers
+/// are named.
 pub fn nodes_text(
     alloc: Global,
     net: &Network,
@@ -40,7 +40,7 @@ fn push_answer(
     verdict: &NodeVerdict,
 ) -> Result<(), Memory>
     ensures { OnOk result ((net : Network) →
-        text.new.items ≡ text.old.items ++ answer_line failures net verdict.now) }
+        text.new.items ≡ text.old.items ++ node_answer_line failures net verdict.now) }
 {
     text.extend_from_slice(b"reach-routers")?;
     push_count(alloc, text, u64::from(failures))?;
@@ -60,9 +60,9 @@ fn answer_word(verdict: &NodeVerdict) -> &'static [u8]
     }
 }
 
-/// How many lines the witness has.
+/// The number of lines of the witness.
 fn count_lines(verdict: &NodeVerdict) -> u64
-    ensures { (net : Network) → result ≡ length (witness_lines net verdict.now) }
+    ensures { (net : Network) → result ≡ length (node_witness_lines net verdict.now) }
 {
     match verdict {
         NodeVerdict::Same => 0,
@@ -72,7 +72,7 @@ fn count_lines(verdict: &NodeVerdict) -> u64
     }
 }
 
-/// The lines of the witness.
+/// Appends the lines of the witness.
 fn push_witness(
     alloc: Global,
     text: &mut Vec<u8>,
@@ -80,7 +80,7 @@ fn push_witness(
     verdict: &NodeVerdict,
 ) -> Result<(), Memory>
     ensures { OnOk result
-        (text.new.items ≡ text.old.items ++ concat (witness_lines net.now verdict.now)) }
+        (text.new.items ≡ text.old.items ++ concat (node_witness_lines net.now verdict.now)) }
 {
     match verdict {
         NodeVerdict::Same => Ok(()),
@@ -95,7 +95,7 @@ fn push_witness(
     }
 }
 
-/// The number of a link, counted from 1.
+/// Appends the line of a link, counted from 1.
 fn push_arc_line(alloc: Global, text: &mut Vec<u8>, number: u64) -> Result<(), Memory>
     ensures { OnOk result
         (text.new.items ≡ text.old.items ++ line (codes "arc") (decimal number ∷ [])) }

@@ -34,13 +34,15 @@ stands_on (Some bytes) before window line longer rest next place n stands takes 
     joined (left before (Some bytes)) line window longer (drop place bytes) takes.1.0 stands ∙ ap (λ (l : List ℕ). longer ++ l) (refilled bytes next place n read count)
 
 -- the file has ended
-ended_by : (bytes : List ℕ) (before after : Pieces) (empty : Bool) → left before (Some bytes) ≡ after.line.items → IsUnbroken after.line.items → left after (Some bytes) ≡ [] → length bytes ≤ before.limit → empty ≡ (length after.line.items == 0) →
+ended_by : (bytes : List ℕ) (before after : Pieces) (empty : Bool) → left before (Some bytes) ≡ after.line.items → IsUnbroken after.line.items →
+    left after (Some bytes) ≡ [] → length bytes ≤ before.limit → empty ≡ (length after.line.items == 0) →
     ReadsLine (Some bytes) before after (Ok (not empty))
 ended_by bytes before after true stands unbroken none few is = (stands ∙ nil_from_length after.line.items (grind (arith, nat_tests)), (none, few))
 ended_by bytes before after false stands unbroken none few is = record { unbroken = unbroken; split = inr (stands, (grind (arith, nat_tests), none)) }
 
 ended : (file : Option (List ℕ)) (before after : Pieces) (window line rest : List ℕ) (n : ℕ) (empty : Bool) →
-    StandsAfter file before window after.place line → IsUnbroken line → TakesFront window line after.line.items rest false → Reads file after.place (Ok n) after.window → n ≡ length after.window → n ≡ 0 → after.place ≤ before.limit →
+    StandsAfter file before window after.place line → IsUnbroken line → TakesFront window line after.line.items rest false →
+    Reads file after.place (Ok n) after.window → n ≡ length after.window → n ≡ 0 → after.place ≤ before.limit →
     empty ≡ (length after.line.items == 0) → ReadsLine file before after (Ok (not empty))
 ended None before after window line rest n empty stands unbroken takes read count zero few is = absurd read
 ended (Some bytes) before after window line rest n empty stands unbroken takes read count zero few is =
@@ -55,7 +57,8 @@ ended (Some bytes) before after window line rest n empty stands unbroken takes r
 -- The same of a store that may tell what it holds.
 module _ (name : List ℕ) where
   pub told_on : (held now : Option Files) → now ≡ held → (before : Pieces) (window line longer rest next : List ℕ) (place n : ℕ) →
-      IfSome held (λ f. StandsAfter (f name) before window place line) → TakesFront window line longer rest false → IfSome now (λ f. Reads (f name) place (Ok n) next) → n ≡ length next → IfSome held (λ f. StandsAfter (f name) before next (place + n) longer)
+      IfSome held (λ f. StandsAfter (f name) before window place line) → TakesFront window line longer rest false →
+      IfSome now (λ f. Reads (f name) place (Ok n) next) → n ≡ length next → IfSome held (λ f. StandsAfter (f name) before next (place + n) longer)
   told_on None now same before window line longer rest next place n stands takes read count = tt
   told_on (Some f) None same before window line longer rest next place n stands takes read count = cc
   told_on (Some f) (Some g) same before window line longer rest next place n stands takes read count =
@@ -63,7 +66,8 @@ module _ (name : List ℕ) where
       stands_on (f name) before window line longer rest next place n stands takes (subst (λ (h : Files). Reads (h name) place (Ok n) next) one read) count
 
   pub told_end : (held now : Option Files) → now ≡ held → (before after : Pieces) (window line rest : List ℕ) (n : ℕ) (empty : Bool) →
-      IfSome held (λ f. StandsAfter (f name) before window after.place line) → IsUnbroken line → TakesFront window line after.line.items rest false → IfSome now (λ f. Reads (f name) after.place (Ok n) after.window) → n ≡ length after.window → n ≡ 0 → after.place ≤ before.limit →
+      IfSome held (λ f. StandsAfter (f name) before window after.place line) → IsUnbroken line → TakesFront window line after.line.items rest false →
+      IfSome now (λ f. Reads (f name) after.place (Ok n) after.window) → n ≡ length after.window → n ≡ 0 → after.place ≤ before.limit →
       empty ≡ (length after.line.items == 0) → IfSome held (λ f. ReadsLine (f name) before after (Ok (not empty)))
   told_end None now same before after window line rest n empty stands unbroken takes read count zero few is = tt
   told_end (Some f) None same before after window line rest n empty stands unbroken takes read count zero few is = cc

@@ -1,6 +1,6 @@
 //! The trusted edge to the files of the system. Its contracts say nothing of what the files hold.
-ghost use Rattle.std.specs.Prelude.{◌≡◌, ◌≢◌, ◌<◌, ◌≤◌, None, length, IfOk, IfErr};
 ghost use Rattle.std.specs.IoError.{error_kind};
+ghost use Rattle.std.specs.Prelude.{◌≡◌, ◌≢◌, ◌<◌, ◌≤◌, None, length, IfOk, IfErr};
 
 use crate::{Fault, Store};
 use arc_base::{Memory, Name};

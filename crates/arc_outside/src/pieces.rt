@@ -1,6 +1,6 @@
 //! A file read line by line.
-ghost use Rattle.std.specs.Prelude.{◌≤◌, IfOk};
 ghost use Rattle.arc_outside.specs.Lines.{TakesFront};
+ghost use Rattle.std.specs.Prelude.{◌≤◌, IfOk};
 
 use crate::reading::ReadAll;
 use crate::window::Window;
@@ -42,10 +42,10 @@ fn take_front(window: &mut Window, line: &mut Vec<u8>) -> Result<bool, Memory>
 }
 
 impl Pieces {
-    ghost use Rattle.std.specs.Prelude.{◌≡◌, ◌+◌, ◌-◌, ◌^◌, ◌<◌, ◌≤◌, [], ℕ, true, false, List};
-    ghost use Rattle.std.specs.Prelude.{Option, unwrap_or, min, IfOk, IfSome, OnOk, OnErr, IsTrue};
     ghost use Rattle.arc_outside.specs.LinesRead.{ahead, left, HandsOut, ReadsLine};
     ghost use Rattle.arc_outside.specs.Reads.{OnlyReadsFile};
+    ghost use Rattle.std.specs.Prelude.{◌≡◌, ◌+◌, ◌-◌, ◌^◌, ◌<◌, ◌≤◌, [], ℕ, true, false, List};
+    ghost use Rattle.std.specs.Prelude.{Option, unwrap_or, min, IfOk, IfSome, OnOk, OnErr, IsTrue};
 
     /// A reader at the start of a file of at most `limit` bytes. It takes no memory yet.
     pub fn make(alloc: Global, limit: u64) -> Pieces

@@ -40,9 +40,9 @@ impl Model for Window {
 }
 
 impl Window {
-    ghost use Rattle.std.specs.Prelude.{◌≡◌, ◌<◌, ◌≤◌, [], length, drop, IfOk, IfSome};
     ghost use Rattle.arc_outside.specs.Causes.{HasCause};
     ghost use Rattle.arc_outside.specs.Reads.{Reads, Took};
+    ghost use Rattle.std.specs.Prelude.{◌≡◌, ◌<◌, ◌≤◌, [], length, drop, IfOk, IfSome};
 
     /// The window of no read.
     pub fn make(alloc: Global) -> Window

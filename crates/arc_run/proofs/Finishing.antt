@@ -14,7 +14,8 @@ unwritten command None held' same = subst (λ (o : Option Files). WhereTold (Par
 unwritten command (Some files) held' same = subst (λ (o : Option Files). WhereTold (PartWritten command) (Some files) o) (sym same) (inl refl)
 
 -- a write of the outcome failed
-part_written : (command : Option Command) (outcome : Outcome) (held held' : Option Files) → IsDefined command held outcome → WhereTold (FailsWithin (writes_of outcome)) held held' → WhereTold (PartWritten command) held held'
+part_written : (command : Option Command) (outcome : Outcome) (held held' : Option Files) → IsDefined command held outcome →
+    WhereTold (FailsWithin (writes_of outcome)) held held' → WhereTold (PartWritten command) held held'
 part_written command outcome None None defined fails = tt
 part_written command outcome None (Some after) defined fails = absurd fails
 part_written command outcome (Some before) None defined fails = absurd fails
@@ -27,13 +28,14 @@ command_writes None held outcomes.Usage defined some = absurd (omega arith)
 command_writes None held (outcomes.Refused r) defined some = absurd defined
 command_writes None held (outcomes.Done d) defined some = absurd defined
 
--- what caused the outcome then causes it now
+-- what caused the outcome when it was found also causes it at the end of the run
 later_cause : {then now short long : Type 0} (outcome : Outcome) → (then → now) → (short → long) → HasOutcomeCause then short outcome → HasOutcomeCause now long outcome
 later_cause outcomes.Usage later longer cause = tt
 later_cause (outcomes.Refused r) later longer cause = record { missing = λ is. later (cause.missing is); too_long = λ is. longer (cause.too_long is) }
 later_cause (outcomes.Done d) later longer cause = tt
 
-module _ {absent long : Type 0} (command : Option Command) (outcome : Outcome) (held now held' : Option Files) (put put' : Option (List ℕ)) (defined : IsDefined command held outcome) (cause : HasOutcomeCause absent long outcome) (same : now ≡ held) where
+module _ {absent long : Type 0} (command : Option Command) (outcome : Outcome) (held now held' : Option Files) (put put' : Option (List ℕ)) (defined : IsDefined command held outcome)
+    (cause : HasOutcomeCause absent long outcome) (same : now ≡ held) where
   leaves : (text : List ℕ) → WereWritten (writes_of outcome) now held' → WasPut text put put' → LeavesOutcome command absent long held held' put put' outcome text
   leaves text written was_put = record {
     defined = defined;
@@ -52,18 +54,21 @@ module _ (command : Option Command) (outcome : Outcome) (held now held' : Option
     sink = none;
   }
 
--- what is left of an outcome that came to its end
-pub left : {then absent short long : Type 0} (command : Option Command) (outcome : Outcome) (held now held' : Option Files) (put put' : Option (List ℕ)) → IsDefined command held outcome → (then → absent) → (short → long) → HasOutcomeCause then short outcome → now ≡ held →
+-- what a run leaves that came to its end
+pub left : {then absent short long : Type 0} (command : Option Command) (outcome : Outcome) (held now held' : Option Files) (put put' : Option (List ℕ)) →
+    IsDefined command held outcome → (then → absent) → (short → long) → HasOutcomeCause then short outcome → now ≡ held →
     WereWritten (writes_of outcome) now held' → WasPut (outcome_text outcome) put put' → LeavesOutcome command absent long held held' put put' outcome (outcome_text outcome)
 left command outcome held now held' put put' defined later longer cause same written was_put =
     leaves command outcome held now held' put put' defined (later_cause outcome later longer cause) same (outcome_text outcome) written was_put
 
--- what the ending does, as a run over the store and the sink as they were
-pub finished : {then absent short long failed broken : Type 0} (command : Option Command) (outcome : Outcome) (held now held' : Option Files) (put put' : Option (List ℕ)) (code : ℕ) → IsDefined command held outcome → (then → absent) → (short → long) → HasOutcomeCause then short outcome → now ≡ held →
+-- what the ending of a run leaves, given the store and the sink as they were at first
+pub finished : {then absent short long failed broken : Type 0} (command : Option Command) (outcome : Outcome) (held now held' : Option Files) (put put' : Option (List ℕ)) (code : ℕ) →
+    IsDefined command held outcome → (then → absent) → (short → long) → HasOutcomeCause then short outcome → now ≡ held →
     (code < 6 → (code ≡ status_of outcome) × WereWritten (writes_of outcome) now held' × WasPut (outcome_text outcome) put put') →
     (code ≡ 6 → failed × (0 < length (writes_of outcome)) × WhereTold (FailsWithin (writes_of outcome)) now held' × (put' ≡ put)) →
     (code ≡ 7 → broken × WereWritten (writes_of outcome) now held' × ((count : ℕ) × WasPut (take count (outcome_text outcome)) put put')) →
-    (code ≡ 8 → (WhereTold (FailsWithin (writes_of outcome)) now held' × (put' ≡ put)) ⊎ (WereWritten (writes_of outcome) now held' × ((count : ℕ) × WasPut (take count (outcome_text outcome)) put put'))) →
+    (code ≡ 8 → (WhereTold (FailsWithin (writes_of outcome)) now held' × (put' ≡ put)) ⊎ (WereWritten
+    (writes_of outcome) now held' × ((count : ℕ) × WasPut (take count (outcome_text outcome)) put put'))) →
     code ≤ 8 → Runs command absent long failed broken held held' put put' code
 finished command outcome held now held' put put' code defined later longer cause same ended store_failed sink_failed memory known =
     let cause_now = later_cause outcome later longer cause in

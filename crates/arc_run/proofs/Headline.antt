@@ -23,7 +23,7 @@ use Rattle.arc_run.specs.Headline.{Tells}
 use Rattle.arc_run.specs.Outcomes.{IsCommandAnswer, IsDefined, IsRefusal, status_of, writes_of}
 use Rattle.arc_run.specs.Runs.{Runs}
 
--- each command tells by its status
+-- the status of each command says what `Tells` says
 command_told : (command : Command) → IsTold (IsRefusal command) (IsCommandAnswer command) (Tells command)
 command_told (Verify document) = verify_told document
 command_told (Trace words) = trace_told words
@@ -62,8 +62,9 @@ tells {held = held} {held' = held'} words runs command is below =
 never : Rose 0 0 → ⊥
 never rose = omega arith
 
--- where no count can rise, the outside's failures are never told
-pub sure : {absent long : Type 0} {held held' : Option Files} {put put' : Option (List ℕ)} {code : ℕ} (command : Option Command) → Runs command absent long (Rose 0 0) (Rose 0 0) held held' put put' code → Runs command absent long ⊥ ⊥ held held' put put' code
+-- if no count can rise, there is no status of a failure outside
+pub sure : {absent long : Type 0} {held held' : Option Files} {put put' : Option (List ℕ)} {code : ℕ} (command : Option Command) →
+    Runs command absent long (Rose 0 0) (Rose 0 0) held held' put put' code → Runs command absent long ⊥ ⊥ held held' put put' code
 sure command runs = record {
   ended = runs.ended;
   store_failed = λ h. absurd (never (runs.store_failed h).0);

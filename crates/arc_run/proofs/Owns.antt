@@ -1,4 +1,4 @@
--- The statuses of outcomes: a command's own are at most 3, and 4 is that of no command.
+-- The statuses of outcomes: a command's own are at most 3, and 4 means that there is no command.
 use Rattle.std.proofs.Common.{◌≤◌, inl, inr, ◌≡◌, ◌∙◌, ◌⊎◌, ℕ, List, refl, sym, arith}
 use Rattle.std.specs.Prelude.{Option, Some, None}
 use Rattle.arc_outside.specs.Files.{Files}
@@ -34,7 +34,7 @@ four (Some command) held outcomes.Usage defined is = absurd defined
 four (Some command) held (outcomes.Refused r) defined is = absurd (omega (arith, is))
 four (Some command) held (outcomes.Done d) defined is = absurd (omega (arith, own_small command d defined.0, is))
 
--- a run that ends with 4 is one of no command
+-- a run that ends with 4 has no command
 pub usage_only : {absent long failed broken : Type 0} {held held' : Option Files} {put put' : Option (List ℕ)} {code : ℕ} (command : Option Command)
     → Runs command absent long failed broken held held' put put' code → code ≡ 4 → command ≡ None
 usage_only {held = held} command runs is =

@@ -1,4 +1,4 @@
--- The outcomes that are defined for the words and for what the names hold.
+-- The outcomes that the words and the files define.
 use Rattle.std.specs.Prelude.{ℕ, List, [], Option, Some, None, IfSome}
 use Rattle.arc_outside.specs.Files.{Files}
 use Rattle.command_words.specs.declared.commands.Command.{Command}
@@ -40,7 +40,7 @@ IsRefusal (Nodes words) = IsNodesRefusal words
 IsRefusal (Prefers words) = IsPrefersRefusal words
 IsRefusal (Recheck words) = IsRecheckRefusal words
 
--- what a command may answer where it is not refused
+-- what a command may answer if it is not refused
 abbrev pub IsCommandAnswer : Command → Files → Done → Type 0
 IsCommandAnswer (Verify document) = IsVerified document
 IsCommandAnswer (Trace words) = IsTraced words
@@ -54,7 +54,7 @@ IsCommandAnswer (Nodes words) = IsNodesAnswer words
 IsCommandAnswer (Prefers words) = IsPrefersAnswer words
 IsCommandAnswer (Recheck words) = IsRecheckAnswer words
 
--- what an answer of a command is, whatever the store holds: which statuses it has, and which files
+-- what each answer of a command is, whatever the store holds: which status it has, and which files
 -- it writes
 abbrev pub IsOwn : Command → Done → Type 0
 IsOwn (Verify document) = IsJudging
@@ -75,13 +75,13 @@ outcome_text outcomes.Usage = usage
 outcome_text (outcomes.Refused r) = refusal_line r
 outcome_text (outcomes.Done d) = d.text
 
--- the files that it writes, in order
+-- the files that an outcome writes, in order
 abbrev pub writes_of : Outcome → List (List ℕ × List ℕ)
 writes_of outcomes.Usage = []
 writes_of (outcomes.Refused r) = []
 writes_of (outcomes.Done d) = d.writes
 
--- its status
+-- the status of an outcome
 abbrev pub status_of : Outcome → ℕ
 status_of outcomes.Usage = 4
 status_of (outcomes.Refused r) = 5

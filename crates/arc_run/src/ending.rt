@@ -14,7 +14,7 @@ use arc_outside::{Fault, Sink, Store};
 use run_files::line_of;
 use std::alloc::Global;
 
-/// Prints some of the text, from this place on.
+/// Prints part of the text, from this place on, and returns how many bytes.
 fn put_from<K: Sink>(out: &mut K, text: &[u8], at: usize) -> Result<usize, Fault>
     requires { at < length text.now }
     ensures some { IfOk result (λ n. 0 < n) }
@@ -90,7 +90,7 @@ fn status_of(outcome: &Outcome) -> u8
     }
 }
 
-/// Ends a run with this outcome.
+/// Ends a run with this outcome: writes its files, prints its text, and returns the status.
 pub fn finish<S: Store, K: Sink>(
     alloc: Global,
     outcome: &Outcome,

@@ -10,7 +10,7 @@ pub struct Status {
     pub code: u8,
 }
 
-/// A defined outcome.
+/// An outcome that the words and the files define.
 #[derive(Drop)]
 pub enum Outcome {
     /// The words match no command.
@@ -19,8 +19,8 @@ pub enum Outcome {
     Done(Done),
 }
 
-/// How a run ended: with its status, and the outcome that the words and the files define, where the
-/// run came to it.
+/// How a run ended: its status, and the outcome that the words and the files define, if the run got
+/// as far.
 #[derive(Drop)]
 pub struct Ended {
     pub status: Status,

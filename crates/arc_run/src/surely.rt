@@ -1,4 +1,4 @@
-//! A run where nothing outside fails.
+//! A run over a store and a sink that never fail.
 ghost use Rattle.arc_outside.specs.Causes.{Rose};
 ghost use Rattle.arc_outside.specs.Reads.{TookMore};
 ghost use Rattle.arc_run.specs.Runs.{Runs};

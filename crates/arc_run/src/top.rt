@@ -140,9 +140,9 @@ fn run_defined<S: Store, K: Sink, L: Listener>(
     }
 }
 
-/// Does what the words say over the store and the sink, and returns the exit status and the
+/// Runs the command of the words over the store and the sink, and returns the exit status and the
 /// outcome. All text is printed at the end, after all files are read and written. The listener
-/// hears what is being done, and of the ending before the first file is written.
+/// hears what the run is doing, and of its ending before the first file is written.
 pub fn run_telling<S: Store, K: Sink, L: Listener>(
     alloc: Global,
     words: &[Name],
@@ -156,7 +156,8 @@ pub fn run_telling<S: Store, K: Sink, L: Listener>(
         (Rose (K.faults out.old) (K.faults out.new)) (S.held store.old) (S.held store.new)
         (K.written out.old) (K.written out.new) result.status.code }
 
-    // As of `run`: a failed call ends the run, and each has a status of its own.
+    // As for `run`: a failed call ends the run, and the store and the sink each have a status of
+    // their own.
     ensures store_fault { RoseWhere (result.status.code ≡ 6)
         (S.faults store.old) (S.faults store.new) }
     ensures sink_fault { RoseWhere (result.status.code ≡ 7) (K.faults out.old) (K.faults out.new) }
@@ -164,7 +165,7 @@ pub fn run_telling<S: Store, K: Sink, L: Listener>(
     ensures no_command { command_of words.now ≡ None →
         (result.status.code ≡ 4) ⊎ (7 ≤ result.status.code) }
 
-    // The headline, as of `run`.
+    // The headline, as for `run`.
     ensures told { (command : Command) → command_of words.now ≡ Some command
         → result.status.code < 6 → IfSome (S.held store.old) (λ before.
         IsSomeAnd (S.held store.new) (Tells command result.status.code before)) }
@@ -185,8 +186,8 @@ pub fn run_telling<S: Store, K: Sink, L: Listener>(
     run_defined(alloc, words, store, out, listener)
 }
 
-/// Does what the words say over the store and the sink, and answers the exit status. All text is
-/// printed at the end, after all files are read and written.
+/// Runs the command of the words over the store and the sink, and returns the exit status. All text
+/// is printed at the end, after all files are read and written.
 pub fn run<S: Store, K: Sink>(alloc: Global, words: &[Name], store: &mut S, out: &mut K) -> Status
     ensures runs { Runs (command_of words.now) (Rose (S.absences store.old) (S.absences store.new))
         (TookMore least_limit (S.taken store.old) (S.taken store.new))
@@ -194,19 +195,19 @@ pub fn run<S: Store, K: Sink>(alloc: Global, words: &[Name], store: &mut S, out:
         (Rose (K.faults out.old) (K.faults out.new))
         (S.held store.old) (S.held store.new) (K.written out.old) (K.written out.new) result.code }
 
-    // A failed call ends the run: 6 comes exactly where a call of the store failed, and 7 exactly
-    // where one of the sink did, and no second one fails.
+    // A failed call ends the run: the status is 6 exactly if a call of the store failed, 7 exactly
+    // if one of the sink did, and no second call fails.
     ensures store_fault { RoseWhere (result.code ≡ 6) (S.faults store.old) (S.faults store.new) }
     ensures sink_fault { RoseWhere (result.code ≡ 7) (K.faults out.old) (K.faults out.new) }
 
-    // The usage line comes exactly where the words match no command, except for 7 and 8.
+    // The usage line is printed exactly if the words match no command, except for 7 and 8.
     ensures usage { result.code ≡ 4 → command_of words.now ≡ None }
     ensures no_command { command_of words.now ≡ None → (result.code ≡ 4) ⊎ (7 ≤ result.code) }
 
     // The headline: below status 6 the status of each command means what `Tells` says of it, in the
-    // words of the subject, of the files before and after. It is about a store that says what it
-    // holds (`S.held`). Over one that says nothing of its content it claims nothing, and of the
-    // clause `runs` only the causes of the statuses are left, and which command has which status.
+    // words of the subject, about the files before and after. It is about a store that says what it
+    // holds (`S.held`). Over one that says nothing of its content it claims nothing, and the clause
+    // `runs` claims only the causes of the statuses, and which command has which status.
     ensures told { (command : Command) → command_of words.now ≡ Some command → result.code < 6
         → IfSome (S.held store.old) (λ before.
         IsSomeAnd (S.held store.new) (Tells command result.code before)) }

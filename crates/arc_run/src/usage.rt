@@ -1,4 +1,4 @@
-//! The line that is printed where the words match no command.
+//! The line that is printed if the words match no command.
 ghost use Rattle.arc_run.specs.Words.{joined_names, usage};
 ghost use Rattle.command_words.specs.Commands.{form_of_row};
 ghost use Rattle.std.specs.Prelude.{◌≡◌, IfOk, map, string_bytes};
@@ -13,14 +13,14 @@ fn names(alloc: Global, forms: &[CommandForm]) -> Result<Vec<&'static str>, Allo
     forms.iter().map(|form| form.name).collect(alloc)
 }
 
-/// The names of these commands, with a bar between each two.
+/// The names of these commands, separated by bars.
 fn joined_names(alloc: Global, forms: &[CommandForm]) -> Result<String, AllocError>
     ensures { IfOk result (λ text. string_bytes text ≡ joined_names (map form_of_row forms.now)) }
 {
     names(alloc, forms)?.join(alloc, "|")
 }
 
-/// The line of all commands, in the order of their table.
+/// The usage line, with all commands in the order of their table.
 pub fn usage_line(alloc: Global) -> Result<Vec<u8>, AllocError>
     ensures { IfOk result (λ line. line.items ≡ usage) }
 {

@@ -1,4 +1,4 @@
-//! Files that are written.
+//! Writing the files of an outcome.
 ghost use Rattle.arc_outside.specs.Causes.{HasCause};
 ghost use Rattle.arc_outside.specs.Files.{WhereTold};
 ghost use Rattle.arc_run.specs.Runs.{WereWritten, FailsWithin};
@@ -7,7 +7,7 @@ ghost use Rattle.std.specs.Prelude.{◌≡◌, ◌<◌, ◌≤◌, length, IsErr
 use arc_base::Name;
 use arc_outside::{Fault, Store};
 
-/// Writes these files in order.
+/// Writes these files in order, up to the first failure.
 pub fn write_all<S: Store>(store: &mut S, writes: &[(Name, Name)]) -> Result<(), Fault>
     ensures written { OnOk result (WereWritten writes.now (S.held store.old) (S.held store.new)) }
     ensures stopped { OnErr result

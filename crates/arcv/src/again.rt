@@ -12,8 +12,7 @@ use std::{fs, str};
 /// The files of the system.
 pub type Disk = DiskStore<HostRuntime>;
 
-/// Whether a file can be read again at once, as a pipe cannot: there a second reading would wait
-/// for ever.
+/// Whether a file can be read a second time. A pipe cannot: reading it again would wait for ever.
 pub fn is_plain(rt: &HostRuntime, name: &[u8]) -> bool {
     let Ok(path) = str::from_utf8(name) else {
         return false;
@@ -24,7 +23,7 @@ pub fn is_plain(rt: &HostRuntime, name: &[u8]) -> bool {
     }
 }
 
-/// The text of a file, where it can be read once more.
+/// The text of a file, if it can be read again.
 pub fn text_again(rt: &HostRuntime, name: &Name, store: &mut Disk) -> Option<Vec<u8>>
     ensures { IfSome result (λ text. length text.items ≤ ROUTER_FILE_LIMIT) }
 {
@@ -34,7 +33,7 @@ pub fn text_again(rt: &HostRuntime, name: &Name, store: &mut Disk) -> Option<Vec
     read_all(rt.alloc(), store, name, ROUTER_FILE_LIMIT).ok()
 }
 
-/// A document, where it can be read again at once.
+/// A document, if it can be read again.
 pub fn document_alone(rt: &HostRuntime, name: &Name, store: &mut Disk) -> Option<Document>
     ensures { IfSome result IsWellFormed }
 {
@@ -44,7 +43,7 @@ pub fn document_alone(rt: &HostRuntime, name: &Name, store: &mut Disk) -> Option
     read_document(rt.alloc(), name, store).ok()
 }
 
-/// A document, where it and its router files can be read again at once.
+/// A document, if it and its router files can be read again.
 pub fn document_again(rt: &HostRuntime, name: &Name, store: &mut Disk) -> Option<Document>
     ensures { IfSome result IsWellFormed }
 {

@@ -20,8 +20,8 @@ use std::alloc::Global;
 use std::process::ExitCode;
 use std::{env, io};
 
-/// The words that follow the program's name. Words that cannot be had as text are none, and so
-/// match no command.
+/// The words that follow the program's name. If one of them is not UTF-8 there are none, and so
+/// they match no command.
 fn words(rt: &HostRuntime, alloc: Global) -> Result<List<Name>, Memory> {
     let mut words = List::make(alloc);
     let args = match env::args(rt) {

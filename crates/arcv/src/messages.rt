@@ -1,4 +1,4 @@
-//! What is said on the standard error of a run.
+//! Messages on standard error about how a run ended.
 
 use crate::again::Disk;
 use crate::notes::explain_answer;
@@ -13,8 +13,8 @@ use run_messages::{
 use std::io::Write;
 use std::{env, io, str};
 
-/// Writes these pieces as one line. Control characters in them are shown as question marks, and
-/// bytes that are no text as escapes.
+/// Writes these pieces as one line. Control characters other than tabs are shown as question marks,
+/// and in a piece that is not UTF-8 text each byte above 127 as an escape.
 pub fn say(rt: &HostRuntime, pieces: &[&[u8]]) -> io::Result<()> {
     let mut err = rt.stderr();
     for piece in pieces {
@@ -33,7 +33,7 @@ fn explain_commands(rt: &HostRuntime) -> io::Result<()> {
     say(rt, &[b"The manual is docs/manual.md beside the sources."])
 }
 
-/// The first word names no command: the one that may be meant.
+/// Says that the first word names no command, and which one may be meant.
 fn explain_name(rt: &HostRuntime, word: &[u8]) -> io::Result<()> {
     let Some(form) = near_form(word) else {
         return say(rt, &[b"arcv: no command is named ", word]);
@@ -50,7 +50,7 @@ fn explain_name(rt: &HostRuntime, word: &[u8]) -> io::Result<()> {
     )
 }
 
-/// The words match no command: what is wrong with them, and the form of the command that the first
+/// Says what is wrong with words that match no command, and the form of the command that the first
 /// of them names.
 fn explain_words(rt: &HostRuntime, words: &[Name]) -> io::Result<()> {
     let Some(command) = words.first() else {
@@ -80,7 +80,7 @@ fn explain_words(rt: &HostRuntime, words: &[Name]) -> io::Result<()> {
     say(rt, &[b"where ", form.meaning.as_bytes()])
 }
 
-/// A file could not be read or written: which one, and what the system said.
+/// Says which file could not be read or written, and the system's reason.
 fn explain_failure(rt: &HostRuntime, store: &Disk) -> io::Result<()> {
     let Some(failure) = store.failure() else {
         return say(rt, &[b"arcv: a file could not be read or written"]);
@@ -103,7 +103,7 @@ fn explain_failure(rt: &HostRuntime, store: &Disk) -> io::Result<()> {
     )
 }
 
-/// Says what there is to say of a run that ended so.
+/// Explains how a run ended, beyond its output and status.
 pub fn explain(
     rt: &HostRuntime,
     words: &[Name],

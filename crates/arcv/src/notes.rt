@@ -1,5 +1,5 @@
-//! What is said on the standard error of a run that ended with an answer: whether a yes of it holds
-//! for any forwarding, and which policy a certificate is rejected at.
+//! Messages about an answer: whether a yes of it holds for any forwarding, and at which policy a
+//! certificate is rejected.
 
 use crate::again::{Disk, document_again, is_plain};
 use crate::messages::say;
@@ -19,7 +19,8 @@ const HOLDS: &[u8] = b"arcv: OSPF runs everywhere here, so each yes of blocked o
 const CLOSES: &[u8] = b"arcv: after these edits OSPF no longer runs everywhere, so a yes of \
     blocked or through then holds for its routes, and no longer for any forwarding";
 
-/// A report has a yes of a blocked or through policy.
+/// Says that the yeses of a report on blocked or through policies hold for any forwarding, if they
+/// do.
 fn explain_yes(rt: &HostRuntime, document: &Name, store: &mut Disk) -> io::Result<()> {
     let Some(doc) = document_again(rt, document, store) else {
         return Ok(());
@@ -30,7 +31,7 @@ fn explain_yes(rt: &HostRuntime, document: &Name, store: &mut Disk) -> io::Resul
     }
 }
 
-/// The edits of a certificate of a repair, a line each; nothing where it is no such certificate.
+/// The lines of edits in a repair's certificate; none in any other file.
 fn edit_lines(rt: &HostRuntime, certificate: &Name, store: &mut Disk) -> io::Result<Vec<u8>> {
     let mut pieces = Pieces::make(rt.alloc(), PROOF_LIMIT);
     let mut text = Vec::new(rt.alloc());
@@ -73,7 +74,8 @@ fn is_barred_report(rt: &HostRuntime, certificate: &Name, store: &mut Disk) -> b
     false
 }
 
-/// A certificate was written or accepted: edits of sessions in it.
+/// Says that the session edits of a certificate keep its yeses from holding for any forwarding, if
+/// they do.
 fn explain_edits(
     rt: &HostRuntime,
     document: &Name,
@@ -99,7 +101,7 @@ fn explain_edits(
     }
 }
 
-/// Says what there is to say of an answer.
+/// Explains an answer, beyond its output and status.
 pub fn explain_answer(
     rt: &HostRuntime,
     words: &[Name],

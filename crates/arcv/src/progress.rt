@@ -1,5 +1,5 @@
-//! The line on a terminal that says what a run is doing that takes longer than a second. It is
-//! written over, and is erased before the run writes or prints anything.
+//! The line on a terminal that shows what a run is doing once it takes longer than a second. It is
+//! overwritten in place, and erased before the run writes or prints anything.
 
 use run_progress::{Listener, Work};
 use std::env::VarError;
@@ -10,11 +10,11 @@ use std::{env, io};
 /// How long a run takes before its first line, in milliseconds.
 const FIRST_LINE_AFTER: u64 = 1_000;
 
-/// How long a line is left as it is, in milliseconds.
+/// How long a line stays before the next one, in milliseconds.
 const NEXT_LINE_AFTER: u64 = 100;
 
-/// The line of a run: when it was last written, and before the first time when the run began; the
-/// price of the best solution so far.
+/// The progress line of a run: when it was last written, or, before the first time, when the run
+/// began; and the price of the best solution so far.
 #[derive(Drop)]
 pub struct ProgressLine<'a> {
     rt: &'a HostRuntime,
@@ -29,7 +29,7 @@ fn is_wanted(rt: &HostRuntime) -> bool {
 }
 
 impl<'a> ProgressLine<'a> {
-    /// The line of a run that begins now. It is never written where it is not wanted.
+    /// The line of a run that begins now. It is never written if it is not wanted.
     pub fn make(rt: &'a HostRuntime) -> ProgressLine<'a> {
         let since = if is_wanted(rt) {
             Instant::now(rt).ok()
@@ -60,7 +60,7 @@ impl<'a> ProgressLine<'a> {
         }
     }
 
-    /// What the line says of a search.
+    /// The text of the line during a search.
     fn search_text(&self, conflicts: u64) -> io::Result<String> {
         let alloc = self.rt.alloc();
         let text = match self.best {
@@ -72,7 +72,7 @@ impl<'a> ProgressLine<'a> {
         Ok(text)
     }
 
-    /// What the line says of the work.
+    /// The text of the line for the work.
     fn text(&self, work: Work) -> io::Result<String> {
         let alloc = self.rt.alloc();
         let text = match work {
@@ -88,7 +88,7 @@ impl<'a> ProgressLine<'a> {
         Ok(text)
     }
 
-    /// Writes the line over the one before.
+    /// Writes the line over the previous one.
     fn show(&mut self, work: Work) -> io::Result<()> {
         let text = self.text(work)?;
         self.is_shown = true;
@@ -100,7 +100,7 @@ impl<'a> ProgressLine<'a> {
         Ok(())
     }
 
-    /// Erases the line, and writes none from then on.
+    /// Erases the line, and writes none after that.
     pub fn erase(&mut self) -> io::Result<()> {
         self.since = None;
         if self.is_shown {

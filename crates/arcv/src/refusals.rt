@@ -1,4 +1,4 @@
-//! What is said on the standard error of a run that was refused.
+//! Messages on standard error about a refusal.
 ghost use Rattle.std.specs.Prelude.{◌≤◌, length};
 
 use crate::again::{Disk, document_again, document_alone, text_again};
@@ -16,7 +16,7 @@ use run_messages::{
 };
 use std::io;
 
-/// The line that a refusal names, and the word that is wrong in it.
+/// Shows the line that a refusal names, and the word that is wrong in it.
 fn explain_line(rt: &HostRuntime, refusal: &FileRefusal, text: &[u8]) -> io::Result<()>
     requires { length text.now ≤ ROUTER_FILE_LIMIT }
 {
@@ -66,7 +66,7 @@ fn subnets_again(
     Some(subnets)
 }
 
-/// Both interfaces whose subnets overlap.
+/// Names the two interfaces whose subnets overlap.
 fn explain_overlap(
     rt: &HostRuntime,
     words: &[Name],
@@ -85,7 +85,7 @@ fn explain_overlap(
     }
 }
 
-/// What is to be said of an end of a link.
+/// The message about an end of a link, if its router lacks the interface.
 fn missing_end(
     rt: &HostRuntime,
     doc: &Document,
@@ -102,7 +102,7 @@ fn missing_end(
     None
 }
 
-/// The interfaces of the link that are not in the files of their routers.
+/// Names the interfaces of the link that their routers' files lack.
 fn explain_ends(rt: &HostRuntime, refusal: &FileRefusal, store: &mut Disk) -> io::Result<()> {
     let Some(doc) = document_alone(rt, &refusal.name, store) else {
         return Ok(());
@@ -122,7 +122,7 @@ fn explain_ends(rt: &HostRuntime, refusal: &FileRefusal, store: &mut Disk) -> io
     Ok(())
 }
 
-/// The file that would have been written over.
+/// Names the file that would have been overwritten.
 fn explain_output(
     rt: &HostRuntime,
     words: &[Name],
@@ -143,7 +143,7 @@ fn explain_output(
     }
 }
 
-/// What most of the edits are.
+/// Says where most of the edits come from.
 fn explain_edits(rt: &HostRuntime, document: &Name, store: &mut Disk) -> io::Result<()> {
     let Some(doc) = document_again(rt, document, store) else {
         return Ok(());
@@ -157,7 +157,7 @@ fn explain_edits(rt: &HostRuntime, document: &Name, store: &mut Disk) -> io::Res
     }
 }
 
-/// The words of the command, or the whole of a file.
+/// Explains a refusal of the command's words, or of a file as a whole.
 fn explain_whole(
     rt: &HostRuntime,
     words: &[Name],
@@ -171,7 +171,7 @@ fn explain_whole(
     }
 }
 
-/// The link or policy of the document that a refusal names.
+/// Shows the link or policy of the document that a refusal names.
 fn explain_item(
     rt: &HostRuntime,
     refusal: &FileRefusal,
@@ -194,7 +194,7 @@ fn explain_item(
     )
 }
 
-/// A part of a file: why it is no document, or the line, link or policy.
+/// Explains a refusal of a part of a file: why it is no document, or which line, link or policy.
 fn explain_part(
     rt: &HostRuntime,
     subject: Subject,
@@ -217,7 +217,7 @@ fn explain_part(
     }
 }
 
-/// Says what is refused, and where.
+/// Explains what is refused, and where.
 pub fn explain_refusal(
     rt: &HostRuntime,
     words: &[Name],

@@ -1,4 +1,4 @@
-//! What is said on the standard error of a run that rejected a certificate.
+//! Messages on standard error about a rejected certificate.
 
 use crate::again::{Disk, document_alone, is_plain};
 use crate::messages::say;
@@ -31,7 +31,7 @@ fn rejected_policy(
     None
 }
 
-/// The policy at which a certificate is rejected, if it is at one.
+/// Names the policy at which a certificate is rejected, if it is at one.
 pub fn explain_rejection(
     rt: &HostRuntime,
     document: &Name,

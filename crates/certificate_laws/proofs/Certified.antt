@@ -29,7 +29,7 @@ use Rattle.policy_report.specs.Rereading.{answers}
 use Rattle.policy_report.specs.Steps.{Step, fails, goes, start}
 use Rattle.arc_repair.specs.declared.answer.Answer.{Answer}
 use Rattle.arc_repair.specs.declared.answer.Answer.TheVariants.{Done as Claimed}
-use Rattle.arc_repair.specs.Answers.{AnswersFew, ClaimsFew, IsAnswer, IsDone, answer_steps}
+use Rattle.arc_repair.specs.Answers.{AnswersFew, ClaimsFew, IsRepairAnswer, IsDone, answer_steps}
 use Rattle.arc_repair.specs.Claims.{claim_bound}
 use Rattle.repair_check.specs.Certifies.{Certifies, CertificatesNameTheirBound, CertifiedClaimsAreTrue, IsCertified, IsCounted, WrittenClaimsAreCertified, text_answers}
 use Rattle.file_copies.specs.Changes.{IsEditable}
@@ -42,7 +42,7 @@ use Rattle.check_commands.specs.RepairChecks.{begins_repair}
 use Rattle.check_commands.specs.Tells.{IsRepairAccepted}
 use Rattle.certificate_laws.proofs.LaidOut.{held-short}
 
--- ---- the first line of a text whose first line is taken as that of a repair
+-- ---- the first line of a text whose first line is read as that of a repair
 
 by_head : (is_report is_repair : Bool) (rest : List (Result Got CertFault)) (more : Step → List (Result Got CertFault)) →
     let s : Step = cond is_report (goes 1 (stages.Between texts.Report 0) (Head Report)) (cond is_repair (goes 1 stages.Answer More) (fails 1 Form)) in
@@ -57,7 +57,8 @@ begins net doc list (line ∷ ls) rest e =
     by_head (bytes_eq line (codes "arc-report 1")) (bytes_eq line (codes "arc-repair 1")) rest (λ (s : Step). answers net doc list s.0 ls) e
 
 -- a text that is read as a certificate begins as that of a repair
-head_read : (net : Network) (doc : Document) (list : List Edit) (ls : List (List ℕ)) (claim : Claim) (told : List Told) → answers net doc list start ls ≡ certificate_answers net claim told → begins_repair ls ≡ true
+head_read : (net : Network) (doc : Document) (list : List Edit) (ls : List (List ℕ)) (claim : Claim) (told : List Told) →
+    answers net doc list start ls ≡ certificate_answers net claim told → begins_repair ls ≡ true
 head_read net doc list ls (Repaired price bound flags verdicts) told read = begins net doc list ls _ read
 head_read net doc list ls (NoRepair bound) told read = begins net doc list ls _ read
 
@@ -84,7 +85,7 @@ module _ (known : Known) (doc : Document) (built : Built) (files : List (List �
 
   module _ (claim : Claim) (log : Log) (same : answer ≡ Claimed claim log) where
     done : IsDone built.net doc list bound claim log.steps
-    done = subst (λ (a : Answer). IsAnswer built.net doc list bound conflicts a) same answered.is_answer
+    done = subst (λ (a : Answer). IsRepairAnswer built.net doc list bound conflicts a) same answered.is_answer
 
     certifies : Certifies built.net doc list claim (certificate_text built.net doc list claim log)
     certifies =
@@ -101,10 +102,11 @@ module _ (known : Known) (doc : Document) (built : Built) (files : List (List �
     head_is =
         let ls : List (List ℕ) = lines (certificate_text built.net doc list claim log) in
         let read : answers built.net doc list start ls ≡ certificate_answers built.net claim certifies.told =
-        known.read built.net doc list claim certifies.told ls editable.fit.valid addresses few_policies (known.apart built.net doc list editable.fit.valid addresses answered.edits) certifies.is_text in
+        known.read built.net doc list claim certifies.told ls editable.fit.valid addresses few_policies
+        (known.apart built.net doc list editable.fit.valid addresses answered.edits) certifies.is_text in
         head_read built.net doc list ls claim certifies.told read
 
-    -- is accepted by its text, under each name
+    -- is accepted by its text, whatever name it has
     pub accepted : (document name : List ℕ) (after : Files) → HoldsInput Editing [] document after doc built.net → after name ≡ Some (certificate_text built.net doc list claim log)
         → length (certificate_text built.net doc list claim log) ≤ proof_limit → IsRepairAccepted document name after
     accepted document name after input holds short =

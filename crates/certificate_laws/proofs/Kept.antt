@@ -29,7 +29,7 @@ none_is (x ∷ names) output name none within same =
       | inr later ↦ none_is names output name parts.1 later same
     ]
 
--- of names that do not clash, no output is an input
+-- if names do not clash, no output is an input
 apart : (inputs outputs : List (List ℕ)) (output input : List ℕ) → clashes inputs outputs ≡ false → Contains outputs output → Contains inputs input → input ≡ output → ⊥
 apart inputs [] output input free there within same = Contains-none output there
 apart inputs (o ∷ outputs) output input free there within same =
@@ -44,7 +44,7 @@ apart inputs (o ∷ outputs) output input free there within same =
 abbrev name_of : List ℕ × List ℕ → List ℕ
 name_of copy = copy.0
 
--- what is written is a copy
+-- the written files are copies
 module _ (suffix : List ℕ) where
   one_copied : (same : Bool) (pair : List ℕ × List ℕ) (pairs : List (List ℕ × List ℕ)) (names : List (List ℕ)) (q : List ℕ) → (Contains (map name_of pairs) q → Contains names q)
       → Contains (map name_of (cond same pairs (pair ∷ pairs))) q → Contains (pair.0 ∷ names) q

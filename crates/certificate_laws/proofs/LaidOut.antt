@@ -1,4 +1,4 @@
--- Files that were made, laid out under their names, are what the commands over a document read.
+-- Generated files that are written under their names are what the commands over a document read.
 use Rattle.std.proofs.Common.{◌≡◌, ◌∙◌, ℕ, suc, ◌*◌, ◌-◌, ◌≤◌, false, List, [], ◌∷◌, map, length, refl, ap, ap₂, arith}
 use Rattle.std.proofs.lemmas.Bool.{le-ltb}
 use Rattle.std.specs.Prelude.{All, Option, Some, None, min, nat_lt, unwrap_or}
@@ -29,7 +29,7 @@ held-short limit files name text holds short =
     let fits : nat_lt limit (length text) ≡ false = le-ltb limit (length text) short in
     ap (refusal_within limit name) holds ∙ (rw fits refl)
 
--- so short texts are not refused, where there is room for them all
+-- short texts are not refused, if there is room for them all
 pub none-refused : (most room : ℕ) (files : Files) (names texts : List (List ℕ)) → 8192 ≤ most → 8192 * length texts ≤ room → All (λ text. length text ≤ 8192) texts
     → map files names ≡ map Some texts → first_refusal most room files names ≡ None
 none-refused most room files [] texts few space short same = refl

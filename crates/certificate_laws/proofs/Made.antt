@@ -22,7 +22,7 @@ use Rattle.certificate_laws.proofs.Certified.{Known, accepted}
 use Rattle.certificate_laws.proofs.LaidOut.{held, none-refused}
 
 module _ (known : Known) (words : GenerateWords) (done : Done) (is : IsSummary words done) where
-  -- what was made, laid out, is the input of a command over its document
+  -- the generated files, once written, are the input of a command over their document
   input : (few : words.number ≤ 40) (document : List ℕ) (files : Files) → IsLaidOut is.made document files → HoldsInput Editing [] document files is.made.doc is.built.net
   input few document files laid =
       let texts : contents files is.made.doc ≡ is.made.files = held files is.made.doc.routers is.made.files laid.routers_are in

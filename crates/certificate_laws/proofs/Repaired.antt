@@ -22,7 +22,7 @@ use Rattle.certificate_laws.proofs.Certified.{Known, accepted}
 use Rattle.certificate_laws.proofs.Kept.{inputs_kept}
 
 module _ (known : Known) (words : RepairWords) (before : Files) (done : Done) (is : IsRepaired words before done) where
-  -- a claim that was written is accepted where the inputs are the same
+  -- a claim that was written is accepted if the inputs are unchanged
   claimed : (claim : Claim) (log : Log) → is.answer ≡ Claimed claim log → (name : List ℕ) (after : Files) → HoldTheSame words.document before after
       → after name ≡ Some (certificate_text is.built.net is.doc is.list claim log) → length (certificate_text is.built.net is.doc is.list claim log) ≤ proof_limit
       → IsRepairAccepted words.document name after

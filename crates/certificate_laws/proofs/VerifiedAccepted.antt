@@ -39,7 +39,7 @@ use Rattle.run_inputs.proofs.SameInput.{same_input}
 few_sides : (net : Network) (classes : List Class) (sides : List ClassSide) → length classes ≤ 4096 → map (λ s. s.class) sides ≡ classes → HasFewLines net (Closed sides)
 few_sides net classes sides few in_order = omega (arith, few, ap length in_order, length-map sides (λ s. s.class), length-map sides (closed_line net))
 
--- one path more than links may fail, or none
+-- one more path than links may fail, or none
 few_paths : (net : Network) (ends : Ends) (k : ℕ) (whole : Class) (paths : List LinkPath) → k ≤ 16 → IsRightPaths net ends k whole paths → HasFewLines net (Paths paths)
 few_paths net ends k whole paths few right = elim (eqb_tells (source_router ends) (target_router ends)) [
   | inl same ↦ omega (arith, right.together same.1, length-map paths path_line)
@@ -71,7 +71,7 @@ all_few_lines net document (p ∷ ps) (v ∷ vs) failures judged =
       all_few_lines net document ps vs failures.1 judged.1,
     )
 
--- so can they be counted in 32 bits
+-- the lines of the witnesses can be counted in 32 bits
 abbrev HasCount : Network → Verdict → Type 0
 HasCount net v = length (witness_lines net v) ≤ 4294967295
 

@@ -1,4 +1,4 @@
--- What `verify` printed, and what `repair` and `generate` wrote, `check` accepts.
+-- `check` accepts what `verify` printed, and what `repair` and `generate` wrote.
 use Rattle.std.specs.Prelude.{◌≡◌, ◌⊎◌, ℕ, List, map, Some}
 use Rattle.arc_outside.specs.Files.{Files, with_files}
 use Rattle.net_gen.specs.declared.generating.Generated.{Generated}
@@ -21,8 +21,8 @@ VerifiedIsAccepted =
     IsVerified document before done → HoldTheSame document before after
     → after certificate ≡ Some done.text → IsAcceptedReport document certificate after
 
--- the certificate that `repair` wrote, of a repair or of that there is none, is accepted under each
--- name that it is saved under, where the document and its router files are still the same
+-- the certificate that `repair` wrote, of a repair or that there is none, is accepted whatever name
+-- it is saved under, if the document and its router files are unchanged
 abbrev pub RepairedIsAccepted : Type 0
 RepairedIsAccepted =
     (words : RepairWords) (certificate : List ℕ) (before after : Files) (done : Done) →
@@ -31,22 +31,22 @@ RepairedIsAccepted =
     after certificate ≡ with_files done.writes before words.proof →
     IsRepairAccepted words.document certificate after
 
--- so it is as the command left the files
+-- the certificate that `repair` wrote is accepted among the files that the command left
 abbrev pub LeftIsAccepted : Type 0
 LeftIsAccepted =
     (words : RepairWords) (before : Files) (done : Done) → IsRepaired words before done →
     (done.status ≡ 0) ⊎ (done.status ≡ 2) →
     IsRepairAccepted words.document words.proof (with_files done.writes before)
 
--- what was made is laid out: this name holds its document, and each name of a router file that
--- one's text
+-- the generated network is written to files: this name holds its document, and the name of each
+-- router file that file's text
 pub record IsLaidOut (made : Generated) (document : List ℕ) (files : Files) : Type 0 where
   pub document_is : HoldsDocument document files made.doc
   pub routers_are : map files made.doc.routers ≡ map Some made.files
 
--- the certificate that `generate` wrote, of a repair or of that there is none, is accepted under
--- each name that it is saved under, once the generated network is laid out as files, whatever else
--- those files hold
+-- the certificate that `generate` wrote, of a repair or that there is none, is accepted whatever
+-- name it is saved under, once the generated network is written to files, whatever else those files
+-- hold
 abbrev pub GeneratedIsAccepted : Type 0
 GeneratedIsAccepted =
     (words : GenerateWords) (made : Generated) (document certificate : List ℕ)

@@ -13,9 +13,9 @@ pub fn verified_is_accepted()
     ensures { VerifiedIsAccepted }
 {}
 
-/// The certificate that `repair` wrote with status 0 or 2 is accepted by `check`, under each name
-/// that it is saved under, where the document and its router files are still the same; so it is as
-/// the command left the files.
+/// The certificate that `repair` wrote with status 0 or 2 is accepted by `check`, whatever name it
+/// is saved under, if the document and its router files are unchanged; so is the one among the
+/// files that `repair` left.
 pub fn repaired_is_accepted()
     ensures saved { RepairedIsAccepted }
     ensures left { LeftIsAccepted }
@@ -28,8 +28,8 @@ pub fn repaired_is_accepted()
     asking_more_changes_no_network();
 }
 
-/// The certificate that `generate` wrote with status 0 or 2 is accepted by `check`, under each name
-/// that it is saved under, where the document and the router files that were made are laid out.
+/// The certificate that `generate` wrote with status 0 or 2 is accepted by `check`, whatever name
+/// it is saved under, once the generated document and router files are written to files.
 pub fn generated_is_accepted()
     ensures { GeneratedIsAccepted }
 {

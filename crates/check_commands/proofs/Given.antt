@@ -1,4 +1,4 @@
--- What judging the certificate of a repair answers.
+-- The answer of judging the certificate of a repair.
 use Rattle.std.proofs.Common.{◌≡◌, ◌⊎◌, ℕ, ◌≤◌, inl, inr, List, [], length, refl, subst, arith}
 use Rattle.std.specs.Prelude.{Option, Some, None, IfSome, Result, Ok, Err}
 use Rattle.arc_base.specs.declared.limits.TheConstants.{EDIT_LIMIT, POLICY_LIMIT}
@@ -40,7 +40,8 @@ use Rattle.check_commands.specs.RepairChecks.{IsJudgedRepair, IsRepairJudged, Is
 -- ---- the judgement over the network
 
 -- the edits of a document that can be judged over the network
-pub instance : (net : Network) (doc : Document) (list : List Edit) → AreFit doc net → length doc.policies ≤ POLICY_LIMIT → DocumentHasFewClasses net doc → AreEdits net doc list → length list ≤ EDIT_LIMIT → IsInstance net doc list
+pub instance : (net : Network) (doc : Document) (list : List Edit) → AreFit doc net → length doc.policies ≤ POLICY_LIMIT → DocumentHasFewClasses net doc →
+    AreEdits net doc list → length list ≤ EDIT_LIMIT → IsInstance net doc list
 instance net doc list fit policies few_classes edits few = record {
   judgeable = record { valid = fit.valid; ends = fit.ends };
   policies = policies;
@@ -51,12 +52,13 @@ instance net doc list fit policies few_classes edits few = record {
 }
 
 module _ (document certificate : List ℕ) (net : Network) (doc : Document) where
-  -- a count is at fault before a line is read
+  -- a count exceeds its limit before a line is read
   pub counts_stopped : (held : Option Files) (fault : EditFault) (stop : Stop) → NamesLimit net doc fault → StopsFor document fault stop →
       IfSome held (λ files. JudgesRepair document net doc certificate files (Err stop))
   counts_stopped None fault stop names stops_for = tt
   counts_stopped (Some files) fault stop names stops_for =
-      limit_refused (NamesLimit net doc) (λ r. (read_refusal proof_limit files certificate ≡ Some r) ⊎ RefusesFor (IsTextFault net doc (bytes_at files certificate)) document r) (IsJudgedRepair net doc (bytes_at files certificate))
+      limit_refused (NamesLimit net doc) (λ r. (read_refusal proof_limit files certificate ≡ Some r) ⊎ RefusesFor
+      (IsTextFault net doc (bytes_at files certificate)) document r) (IsJudgedRepair net doc (bytes_at files certificate))
       document (λ what count passed. inr (what, count, inl passed, refl)) fault stop stops_for names
 
   module _ (list : List Edit) (is : IsInstance net doc list) (countable : IsCountable net) (addresses : HasAddresses net) (exactly : CertificatesAreAccepted) (are_true : CertifiedClaimsAreTrue) where
@@ -97,13 +99,13 @@ module _ (document certificate : List ℕ) (net : Network) (doc : Document) wher
 
 -- ---- the judgement from the files
 
--- what is answered over a store, where the document and the certificate are held
+-- the answer over a store that holds the document and the certificate
 abbrev pub IsGiven : List ℕ → List ℕ → Document → Option Files → Result Done Stop → Type 0
 IsGiven document certificate doc held result =
     IfSome held (λ files. HoldsDocument document files doc → read_refusal proof_limit files certificate ≡ None →
     Gives (IsTextRefusal document (bytes_at files certificate) files) (IsRepairJudged document (bytes_at files certificate) files) result)
 
--- the router files gave this
+-- the router files that were read
 abbrev pub ReadSources : List ℕ → Document → Option Files → Result Sources Stop → Type 0
 ReadSources document doc held result = IfSome held (λ files. HoldsDocument document files doc → ReadsSources Editing [] document doc files result)
 
@@ -115,11 +117,13 @@ module _ (document certificate : List ℕ) (doc : Document) where
   sources_stopped (Some files) stops.Failed told = λ is fits. tt
 
   module _ (held later : Option Files) (same : later ≡ held) (sources : Sources) (told : ReadSources document doc held (Ok sources)) (valid : IsValid sources.built.net) where
-    -- what judging the lines answered, of the files as they were
-    before : (result : Result Outcome Stop) → IfSome later (λ files. JudgesRepair document sources.built.net doc certificate files result) → IfSome held (λ files. JudgesRepair document sources.built.net doc certificate files result)
+    -- the answer of judging the lines, for the files as they were
+    before : (result : Result Outcome Stop) → IfSome later (λ files. JudgesRepair document sources.built.net doc certificate files result) →
+        IfSome held (λ files. JudgesRepair document sources.built.net doc certificate files result)
     before result is = subst (λ (o : Option Files). IfSome o (λ files. JudgesRepair document sources.built.net doc certificate files result)) same is
 
-    stopped_here : (now : Option Files) (stop : Stop) → ReadSources document doc now (Ok sources) → IfSome now (λ files. JudgesRepair document sources.built.net doc certificate files (Err stop)) → IsGiven document certificate doc now (Err stop)
+    stopped_here : (now : Option Files) (stop : Stop) → ReadSources document doc now (Ok sources) →
+        IfSome now (λ files. JudgesRepair document sources.built.net doc certificate files (Err stop)) → IsGiven document certificate doc now (Err stop)
     stopped_here None stop read is = tt
     stopped_here (Some files) (stops.Refused r) read (inl late) = λ held fits. absurd (refused_none (read_refusal proof_limit files certificate) r fits late)
     stopped_here (Some files) (stops.Refused r) read (inr passed) = λ held fits.
@@ -127,11 +131,12 @@ module _ (document certificate : List ℕ) (doc : Document) where
     stopped_here (Some files) stops.Memory read is = λ held fits. tt
     stopped_here (Some files) stops.Failed read is = λ held fits. tt
 
-    -- the lines are not judged
+    -- judging the lines was stopped
     pub lines_stopped : (stop : Stop) → IfSome later (λ files. JudgesRepair document sources.built.net doc certificate files (Err stop)) → IsGiven document certificate doc held (Err stop)
     lines_stopped stop is = stopped_here held stop told (before (Err stop) is)
 
-    judged_now : (now : Option Files) (outcome : Outcome) (done : Done) → ReadSources document doc now (Ok sources) → IfSome now (λ files. JudgesRepair document sources.built.net doc certificate files (Ok outcome)) →
+    judged_now : (now : Option Files) (outcome : Outcome) (done : Done) → ReadSources document doc now (Ok sources) →
+        IfSome now (λ files. JudgesRepair document sources.built.net doc certificate files (Ok outcome)) →
         done.text ≡ judgement_text (judgement_of outcome) → done.status ≡ judgement_status (judgement_of outcome) → IsJudging done → IsGiven document certificate doc now (Ok done)
     judged_now None outcome done read is text_is status own = tt
     judged_now (Some files) outcome done read is text_is status own = λ held fits. record {
@@ -146,7 +151,7 @@ module _ (document certificate : List ℕ) (doc : Document) where
       status = status;
     }
 
-    -- they are
+    -- the lines were judged
     pub judged : (outcome : Outcome) (done : Done) → IfSome later (λ files. JudgesRepair document sources.built.net doc certificate files (Ok outcome)) →
         done.text ≡ judgement_text (judgement_of outcome) → done.status ≡ judgement_status (judgement_of outcome) → IsJudging done → IsGiven document certificate doc held (Ok done)
     judged outcome done is text_is status own = judged_now held outcome done told (before (Ok outcome) is) text_is status own

@@ -1,4 +1,4 @@
--- What `check` answers for a certificate of either form.
+-- The answer of `check` for a certificate of either form.
 use Rattle.std.proofs.Common.{◌≡◌, ◌∙◌, ℕ, true, false, inl, inr, List, sym, subst}
 use Rattle.std.specs.Prelude.{Bool, Option, Some, None, IfOk, IfSome, Result, Ok, Err}
 use Rattle.std.proofs.lemmas.Bool.{false≢true}
@@ -16,11 +16,11 @@ use Rattle.check_commands.specs.Readings.{ReadsHead}
 use Rattle.check_commands.specs.RepairChecks.{HoldsRepair, IsAnyChecked, IsAnyRefusal}
 use Rattle.check_commands.proofs.Given.{IsGiven}
 
--- what is answered
+-- the answer over a store
 abbrev pub IsAnswered : List ℕ → List ℕ → Option Files → Result Done Stop → Type 0
 IsAnswered document certificate held result = Answers IsJudging (IsAnyRefusal document certificate) (IsAnyChecked document certificate) held result
 
--- what is answered for a report where it and the document are held
+-- the answer for a report, over a store that holds it and the document
 abbrev pub GivesReport : List ℕ → List ℕ → Document → Option Files → Result Done Stop → Type 0
 GivesReport document certificate doc held result =
     IfSome held (λ files. HoldsDocument document files doc → read_refusal proof_limit files certificate ≡ None → Gives (RefusesInput document files) (IsChecked document certificate files) result)
@@ -36,13 +36,14 @@ module _ (document certificate : List ℕ) (doc : Document) where
   head_stopped_here (Some files) stops.Memory told head = tt
   head_stopped_here (Some files) stops.Failed told head = tt
 
-  pub head_stopped : (held one : Option Files) → one ≡ held → (stop : Stop) → IfSome held (λ files. ReadsDocumentAt document files (Ok doc)) → IfSome one (λ files. ReadsHead proof_limit files certificate (Err stop)) →
+  pub head_stopped : (held one : Option Files) → one ≡ held → (stop : Stop) → IfSome held (λ files. ReadsDocumentAt document files (Ok doc)) →
+      IfSome one (λ files. ReadsHead proof_limit files certificate (Err stop)) →
       IsAnswered document certificate held (Err stop)
   head_stopped held one same stop told head = head_stopped_here held stop told (subst (λ (o : Option Files). IfSome o (λ files. ReadsHead proof_limit files certificate (Err stop))) same head)
 
   module _ (held one two : Option Files) (first : one ≡ held) (second : two ≡ one) (told : IfSome held (λ files. ReadsDocumentAt document files (Ok doc))) (begins : Bool)
       (head : IfSome one (λ files. ReadsHead proof_limit files certificate (Ok begins))) (result : Result Done Stop) (own : IfOk result IsJudging) where
-    -- the first reading, of the files as they were
+    -- the first reading, for the files as they were
     read : IfSome held (λ files. ReadsHead proof_limit files certificate (Ok begins))
     read = subst (λ (o : Option Files). IfSome o (λ files. ReadsHead proof_limit files certificate (Ok begins))) first head
 
@@ -61,7 +62,7 @@ module _ (document certificate : List ℕ) (doc : Document) where
     pub repair_answered : begins ≡ true → IsGiven document certificate doc two result → IsAnswered document certificate held result
     repair_answered yes' judged = repair_here held result own yes' told read (subst (λ (o : Option Files). IsGiven document certificate doc o result) (second ∙ first) judged)
 
-    -- any other
+    -- a certificate of the other form
     differs : (files : Files) → begins ≡ false → ReadsHead proof_limit files certificate (Ok begins) → HoldsRepair certificate files → ⊥
     differs files no' head_is holds = false≢true (sym no' ∙ head_is.1 ∙ holds.begins)
 

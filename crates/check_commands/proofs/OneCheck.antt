@@ -1,4 +1,4 @@
--- `check` has one answer, or one first refusal, for a certificate of either form.
+-- `check` has at most one answer or one first refusal, for a certificate of either form.
 use Rattle.std.proofs.Common.{◌≡◌, ◌⊎◌, ◌∙◌, ℕ, inl, inr, List, [], ap, subst, sym}
 use Rattle.arc_base.specs.declared.refusal.Kind.TheVariants.{Limit}
 use Rattle.arc_outside.specs.Files.{Files}
@@ -33,7 +33,8 @@ module _ (document certificate : List ℕ) (files : Files) where
       let lists : t.judged.list ≡ there.list = edit_lists_are_one t.net t.doc t.judged.list there.list t.valid t.judged.edits there.edits in
       let P : List Edit → Type 0 = λ l. IsRepairOutcome t.net t.doc l text t.outcome in
       let same : t.outcome ≡ s.outcome = one t.net t.doc there.list text t.outcome s.outcome t.valid t.judged.countable (subst P lists t.judged.outcome_is) there.outcome_is in
-      same_done done other (t.text_is ∙ ap (λ (o : Outcome). judgement_text (judgement_of o)) same ∙ sym s.text_is) (t.writes ∙ sym s.writes) (t.status ∙ ap (λ (o : Outcome). judgement_status (judgement_of o)) same ∙ sym s.status)
+      same_done done other (t.text_is ∙ ap (λ (o : Outcome). judgement_text (judgement_of o)) same ∙ sym s.text_is) (t.writes ∙ sym s.writes)
+      (t.status ∙ ap (λ (o : Outcome). judgement_status (judgement_of o)) same ∙ sym s.status)
 
   pub one_answer : HasOneOutcome → (done other : Done) → IsAnyChecked document certificate files done → IsAnyChecked document certificate files other → done ≡ other
   one_answer one done other (inl t) (inl s) = repair_once one done other t.1 s.1
@@ -41,9 +42,9 @@ module _ (document certificate : List ℕ) (files : Files) where
   one_answer one done other (inr t) (inl s) = absurd (t.0 s.0)
   one_answer one done other (inr t) (inr s) = checked_once document certificate files done other t.1 s.1
 
-  -- ---- or one refusal
+  -- ---- one refusal
 
-  -- behind the certificate of a repair
+  -- after the certificate of a repair
   abbrev Behind : FileRefusal → Type 0
   Behind r = HoldsRepair certificate files × IsTextRefusal document (bytes_at files certificate) files r
 
@@ -58,12 +59,13 @@ module _ (document certificate : List ℕ) (files : Files) where
   behind_once r s (h, inr u) (k, inl v) = absurd ((determined Editing [] document files).not_both u.doc u.net s u.input (inr (inr v)))
   behind_once r s (h, inr u) (k, inr v) =
       let text : List ℕ = bytes_at files certificate in
-      let there : IsTextFault u.net u.doc text (faults.Limit v.what v.count) = moved document certificate files u.doc u.net u.input (λ d n. IsTextFault n d text (faults.Limit v.what v.count)) v.doc v.net v.input v.fault in
+      let there : IsTextFault u.net u.doc text (faults.Limit v.what v.count) =
+      moved document certificate files u.doc u.net u.input (λ d n. IsTextFault n d text (faults.Limit v.what v.count)) v.doc v.net v.input v.fault in
       let same = fault_once u.net u.doc u.valid text u.what v.what u.count v.count u.fault there in
       let told : refusal_of document 0 (Limit u.what u.count) ≡ refusal_of document 0 (Limit v.what v.count) = λ i. refusal_of document 0 (Limit (same.0 i) (same.1 i)) in
       u.told ∙ told ∙ sym v.told
 
-  -- any other refusal is one of `check` for reports, and then nothing is refused behind the certificate of a repair
+  -- any other refusal is one of `check` for reports, and then nothing is refused after the certificate of a repair
   abbrev Stage : FileRefusal → Type 0
   Stage r = Behind r ⊎ (IsCheckRefusal document certificate files r × ((s : FileRefusal) → Behind s → ⊥))
 

@@ -1,4 +1,4 @@
--- The first limit that the certificate of a repair passes is one.
+-- The certificate of a repair has one first limit that is exceeded.
 use Rattle.std.proofs.Common.{◌≡◌, ℕ, inl, inr, List, subst}
 use Rattle.arc_base.specs.declared.refusal.LimitKind.{LimitKind}
 use Rattle.net_model.specs.declared.policies.Document.{Document}
@@ -15,7 +15,8 @@ use Rattle.check_commands.specs.RepairChecks.{IsTextFault}
 
 module _ (net : Network) (doc : Document) (valid : IsValid net) where
   -- classes are counted first, then edits, and then the formula
-  pub fault_once : (text : List ℕ) (what other : LimitKind) (count more : ℕ) → IsTextFault net doc text (Limit what count) → IsTextFault net doc text (Limit other more) → (what ≡ other) × (count ≡ more)
+  pub fault_once : (text : List ℕ) (what other : LimitKind) (count more : ℕ) → IsTextFault net doc text (Limit what count) →
+      IsTextFault net doc text (Limit other more) → (what ≡ other) × (count ≡ more)
   fault_once text what other count more (inl n) (inl m) = one_limit net doc valid what other count more n m
   fault_once text what other count more (inl n) (inr q) = absurd (few_or_limit net doc q.list valid q.edits q.few q.classes what count n)
   fault_once text what other count more (inr p) (inl m) = absurd (few_or_limit net doc p.list valid p.edits p.few p.classes other more m)

@@ -1,4 +1,4 @@
--- `check` has one answer, or one first refusal.
+-- `check` has at most one answer or one first refusal.
 use Rattle.std.proofs.Common.{◌≡◌, ◌⊎◌, inl, inr, List, [], ℕ, sym, ◌∙◌, ap, subst}
 use Rattle.arc_outside.specs.Files.{Files}
 use Rattle.arc_base.specs.TextLines.{lines}
@@ -33,9 +33,10 @@ module _ (document certificate : List ℕ) (files : Files) where
       let R : Network → Type 0 = λ n. IsReportOutcome n s.doc.policies 1 1 (answers n s.doc [] start (lines (bytes_at files certificate))) t.outcome in
       let same : t.outcome ≡ s.outcome =
       one_outcome s.net s.doc.policies 1 1 (answers s.net s.doc [] start (lines (bytes_at files certificate))) t.outcome s.outcome (subst R nets (subst Q docs t.outcome_is)) s.outcome_is in
-      same_done done other (t.text ∙ ap (λ (o : Outcome). judgement_text (judgement_of o)) same ∙ sym s.text) (t.writes ∙ sym s.writes) (t.status ∙ ap (λ (o : Outcome). judgement_status (judgement_of o)) same ∙ sym s.status)
+      same_done done other (t.text ∙ ap (λ (o : Outcome). judgement_text (judgement_of o)) same ∙ sym s.text) (t.writes ∙ sym s.writes)
+      (t.status ∙ ap (λ (o : Outcome). judgement_status (judgement_of o)) same ∙ sym s.status)
 
-  -- a refusal is the certificate's, or one of a command that judges, and then no certificate is refused before it
+  -- a refusal is that of the certificate, or one of a command that judges, where no certificate is refused before it
   abbrev Stage : FileRefusal → Type 0
   Stage r = RefusesCertificate document certificate files r ⊎ (IsJudgingRefusal Judging document files r × ((s : FileRefusal) → RefusesCertificate document certificate files s → ⊥))
 

@@ -25,12 +25,12 @@ use Rattle.run_inputs.proofs.AllTrue.{all_true}
 use Rattle.run_files.specs.Refusals.{bytes_at, read_refusal}
 use Rattle.run_files.proofs.OneAnswer.{refused_none}
 
--- what is answered for a certificate where it and the document are held
+-- the answer for a certificate, over a store that holds it and the document
 abbrev pub IsGiven : List ℕ → List ℕ → Document → Option Files → Result Done Stop → Type 0
 IsGiven document certificate doc held result =
     IfSome held (λ files. HoldsDocument document files doc → read_refusal proof_limit files certificate ≡ None → Gives (RefusesInput document files) (IsChecked document certificate files) result)
 
--- the router files gave this
+-- the input that was read
 abbrev pub ReadInput : List ℕ → Document → Option Files → Input → Type 0
 ReadInput document doc held input = IfSome held (λ files. HoldsDocument document files doc → ReadsRouterFiles Judging [] document files (Ok input))
 
@@ -64,7 +64,7 @@ pub lines_stopped : (held later : Option Files) → later ≡ held → (document
 lines_stopped held later same document certificate doc net judged stop told =
     stopped_here held document certificate doc net judged stop (subst (λ (o : Option Files). IfSome o (λ files. JudgesReport proof_limit net judged certificate files (Err stop))) same told)
 
--- the judgement where nothing is refused
+-- the judgement if nothing is refused
 judged_here : (held : Option Files) (document certificate : List ℕ) (doc : Document) (input : Input) (judgement : Judgement) (done : Done) → ReadInput document doc held input
     → IsFit input → PoliciesHaveFewClasses input.net input.doc.policies
     → IfSome held (λ files. JudgesReport proof_limit input.net input.doc certificate files (Ok judgement))
@@ -93,7 +93,7 @@ judged held later same document certificate doc input judgement done told fit cl
     let P : Option Files → Type 0 = λ o. IfSome o (λ files. JudgesReport proof_limit input.net input.doc certificate files (Ok judgement)) in
     judged_here held document certificate doc input judgement done told fit classes (subst P same judges) text_is status own
 
--- of accepted, rejected and refused only one is said
+-- only one of accepted, rejected and refused holds
 module _ (document certificate : List ℕ) (files : Files) where
   accepted_or_rejected : IsAcceptedReport document certificate files → IsRejected document certificate files → ⊥
   accepted_or_rejected yes' no' =
@@ -105,7 +105,8 @@ module _ (document certificate : List ℕ) (files : Files) where
       let R : Network → Type 0 = λ n. IsReport n no'.doc (bytes_at files certificate) in
       no'.no_report (subst R nets (subst Q docs yes'.report))
 
-  pub held_or_refused : (doc : Document) (net : Network) (r : FileRefusal) → HoldsInput Judging [] document files doc net → read_refusal proof_limit files certificate ≡ None → PoliciesHaveFewClasses net doc.policies → IsCheckRefusal document certificate files r → ⊥
+  pub held_or_refused : (doc : Document) (net : Network) (r : FileRefusal) → HoldsInput Judging [] document files doc net →
+      read_refusal proof_limit files certificate ≡ None → PoliciesHaveFewClasses net doc.policies → IsCheckRefusal document certificate files r → ⊥
   held_or_refused doc net r input held classes (inl e) = (determined Judging [] document files).not_both doc net r input (inl e)
   held_or_refused doc net r input held classes (inr (inl u)) = (determined Judging [] document files).not_both doc net r input (inr (inl u))
   held_or_refused doc net r input held classes (inr (inr (inl u))) = refused_none (read_refusal proof_limit files certificate) r held u.refused
@@ -119,7 +120,17 @@ module _ (document certificate : List ℕ) (files : Files) where
   told_done d done Accepted is =
       let zero' : d.status ≡ 0 = done.status ∙ ap (λ (o : Judgement). judgement_status (judgement_of o)) is in
       let report = done.accepted.0 is in
-      let says : IsAcceptedReport document certificate files = record { doc = done.doc; net = done.net; input = done.input; held = done.held; classes = done.classes; report = report; are_true = all_true done.net done.valid done.doc.policies report.verdicts report.right } in
+      let says : IsAcceptedReport document certificate files =
+      record {
+        doc = done.doc;
+        net = done.net;
+        input = done.input;
+        held = done.held;
+        classes = done.classes;
+        report = report;
+        are_true =
+            all_true done.net done.valid done.doc.policies report.verdicts report.right;
+      } in
       record {
         accepted_exactly = (λ e. says, λ s. zero');
         rejected_exactly = (λ e. absurd (omega (arith, zero', e)), λ no'. absurd (accepted_or_rejected says no'));
@@ -128,7 +139,8 @@ module _ (document certificate : List ℕ) (files : Files) where
       }
   told_done d done (Rejected fault) is =
       let one : d.status ≡ 1 = done.status ∙ ap (λ (o : Judgement). judgement_status (judgement_of o)) is in
-      let says : IsRejected document certificate files = record { doc = done.doc; net = done.net; input = done.input; held = done.held; classes = done.classes; no_report = λ report. not_both (sym is ∙ done.accepted.1 report) } in
+      let says : IsRejected document certificate files =
+      record { doc = done.doc; net = done.net; input = done.input; held = done.held; classes = done.classes; no_report = λ report. not_both (sym is ∙ done.accepted.1 report) } in
       record {
         accepted_exactly = (λ e. absurd (omega (arith, one, e)), λ yes'. absurd (accepted_or_rejected yes' says));
         rejected_exactly = (λ e. says, λ s. one);

@@ -65,7 +65,7 @@ module _ (document certificate : List ℕ) (files : Files) where
   -- ---- what is judged is not refused
 
   module _ (doc : Document) (net : Network) (list : List Edit) (j : IsJudgeable document certificate files doc net list) where
-    -- its formula passes no limit
+    -- its formula exceeds no limit
     counted_or_passed : IsValid net → (what : LimitKind) (count : ℕ) → IsTextFault net doc (bytes_at files certificate) (faults.Limit what count) → ⊥
     counted_or_passed valid what count (inl names) = few_or_limit net doc list valid j.edits j.few j.classes what count names
     counted_or_passed valid what count (inr passes) =
@@ -89,7 +89,7 @@ module _ (document certificate : List ℕ) (files : Files) where
     pub judgeable : IsJudgeable document certificate files done.doc done.net done.judged.list
     judgeable = record { holds = holds; input = done.input; edits = done.judged.edits; classes = done.judged.classes; few = done.judged.few; counted = done.judged.counted }
 
-    -- whoever judges it finds it certified, or finds it not, as here
+    -- one judgement certifies it exactly if another does
     certified_here : (other : Document) (last : Network) (list : List Edit) → IsJudgeable document certificate files other last list → IsCertified last other list (bytes_at files certificate)
         → IsCertified done.net done.doc done.judged.list (bytes_at files certificate)
     certified_here other last list j certified =
@@ -112,7 +112,8 @@ module _ (document certificate : List ℕ) (files : Files) where
     repair_told Accepted is =
         let zero' : d.status ≡ 0 = done.status ∙ ap (λ (o : Judgement). judgement_status (judgement_of o)) is in
         let certified = done.judged.accepted.0 is in
-        let says : IsRepairAccepted document certificate files = record { doc = done.doc; net = done.net; list = done.judged.list; judgeable = judgeable; certified = certified; are_true = done.judged.are_true } in
+        let says : IsRepairAccepted document certificate files =
+        record { doc = done.doc; net = done.net; list = done.judged.list; judgeable = judgeable; certified = certified; are_true = done.judged.are_true } in
         record {
           accepted_exactly = (λ e. inl says, λ s. zero');
           rejected_exactly = (
@@ -127,7 +128,8 @@ module _ (document certificate : List ℕ) (files : Files) where
         }
     repair_told (Rejected fault) is =
         let one : d.status ≡ 1 = done.status ∙ ap (λ (o : Judgement). judgement_status (judgement_of o)) is in
-        let says : IsRepairRejected document certificate files = record { doc = done.doc; net = done.net; list = done.judged.list; judgeable = judgeable; not_certified = λ certified. not_both (sym is ∙ done.judged.accepted.1 certified) } in
+        let says : IsRepairRejected document certificate files =
+        record { doc = done.doc; net = done.net; list = done.judged.list; judgeable = judgeable; not_certified = λ certified. not_both (sym is ∙ done.judged.accepted.1 certified) } in
         record {
           accepted_exactly = (
             λ e. absurd (omega (arith, one, e)),

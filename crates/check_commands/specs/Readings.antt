@@ -1,4 +1,4 @@
--- What the two readings of a certificate answer.
+-- The answers of the two readings of a certificate.
 use Rattle.std.specs.Prelude.{◌≡◌, ◌↔◌, ◌⊎◌, ℕ, Bool, List, None, Some, Result}
 use Rattle.arc_base.specs.declared.refusal.Kind.TheVariants.{Limit}
 use Rattle.arc_base.specs.declared.refusal.LimitKind.{LimitKind}
@@ -32,7 +32,7 @@ RefusesFor IsFault document r =
     (what : LimitKind) × (count : ℕ) × IsFault (faults.Limit what count) ×
     (r ≡ refusal_of document 0 (Limit what count))
 
--- what the text is judged to as a report, which is accepted exactly where it is a report of right
+-- the outcome of the text as a report, which is accepted exactly if it is a report of right
 -- verdicts; or a refusal of its file
 abbrev pub JudgesReport : ℕ → Network → Document → List ℕ → Files → Result Outcome Stop → Type 0
 JudgesReport limit net doc certificate files result =
@@ -40,8 +40,8 @@ JudgesReport limit net doc certificate files result =
     (λ o. IsJudgedTo net doc (bytes_at files certificate) o ×
     ((o ≡ Accepted) ↔ IsReport net doc (bytes_at files certificate))) result
 
--- what the text is judged to over the network as the certificate of a repair, or a refusal of its
--- file or for a count
+-- the outcome of the text over the network as the certificate of a repair, or a refusal of its file
+-- or for a count
 abbrev pub JudgesRepair : List ℕ → Network → Document → List ℕ → Files →
     Result Outcome Stop → Type 0
 JudgesRepair document net doc certificate files result =

@@ -37,13 +37,13 @@ abbrev pub begins_repair : List (List ℕ) → Bool
 begins_repair [] = false
 begins_repair (line ∷ ls) = bytes_eq line (codes "arc-repair 1")
 
--- the certificate is held, and begins so
+-- the certificate is held, and its first line is that of a repair
 pub record HoldsRepair (certificate : List ℕ) (files : Files) : Type 0 where
   pub held : read_refusal proof_limit files certificate ≡ None
   pub begins : begins_repair (lines (bytes_at files certificate)) ≡ true
 
 -- there are few classes and few edits, and the variables or literals of the formula for the bound
--- of the answer pass their limit
+-- of the answer exceed their limit
 pub record PassesCounted (net : Network) (doc : Document) (text : List ℕ)
     (fault : EditFault) : Type 0 where
   pub list : List Edit
@@ -52,12 +52,12 @@ pub record PassesCounted (net : Network) (doc : Document) (text : List ℕ)
   pub few : length list ≤ EDIT_LIMIT
   pub formula : IsCountFault net doc list (text_answers net doc list text) fault
 
--- the first count that passes its limit: of classes, of edits, or of the formula for the bound of
--- the answer
+-- the first count above its limit: of classes, of edits, or of the formula for the bound of the
+-- answer
 abbrev pub IsTextFault : Network → Document → List ℕ → EditFault → Type 0
 IsTextFault net doc text fault = NamesLimit net doc fault ⊎ PassesCounted net doc text fault
 
--- the network of the document and its files passes a limit
+-- a count for the network of the document and its files is above its limit
 pub record RefusesTextCounts (document text : List ℕ) (files : Files)
     (r : FileRefusal) : Type 0 where
   pub doc : Document
@@ -74,14 +74,15 @@ abbrev pub IsTextRefusal : List ℕ → List ℕ → Files → FileRefusal → T
 IsTextRefusal document text files r =
     IsFilesRefusal Editing [] document files r ⊎ RefusesTextCounts document text files r
 
--- what is refused behind the certificate's file
+-- what is refused after the certificate's file, by its first line as for a repair or as for a
+-- report
 abbrev pub RefusesJudging : List ℕ → List ℕ → Files → FileRefusal → Type 0
 RefusesJudging document certificate files r =
     (HoldsRepair certificate files × IsTextRefusal document (bytes_at files certificate) files r) ⊎
     ((¬ HoldsRepair certificate files) × RefusesBehind document certificate files r)
 
 -- The judgement of the text over the network, whose interfaces, sessions and names can be counted:
--- that it is accepted, or the first line that is rejected. It is accepted exactly where it is the
+-- that it is accepted, or the first line that is rejected. It is accepted exactly if it is the
 -- certificate of a claim, and each such claim is true.
 pub record IsJudgedRepair (net : Network) (doc : Document) (text : List ℕ)
     (outcome : Outcome) : Type 0 where
@@ -96,8 +97,8 @@ pub record IsJudgedRepair (net : Network) (doc : Document) (text : List ℕ)
   pub are_true : (claim : Claim) → Certifies net doc list claim text →
       IsTrueClaim net doc list claim
 
--- the text is judged so over the network of the document and its files, and the judgement is
--- printed
+-- the text is judged as the certificate of a repair over the network of the document and its files,
+-- and the judgement is printed
 pub record IsRepairJudged (document text : List ℕ) (files : Files) (done : Done) : Type 0 where
   pub doc : Document
   pub net : Network

@@ -35,7 +35,7 @@ abbrev pub RefusesInput : List ℕ → Files → FileRefusal → Type 0
 RefusesInput document files r =
     IsFilesRefusal Judging [] document files r ⊎ RefusesClasses Judging document files r
 
--- and the certificate is held
+-- the certificate is held, and the router files, their network or its classes are refused
 pub record RefusesBehind (document certificate : List ℕ) (files : Files)
     (r : FileRefusal) : Type 0 where
   pub held : read_refusal proof_limit files certificate ≡ None
@@ -49,14 +49,14 @@ IsCheckRefusal document certificate files r =
     (RefusesDocument document files r ⊎
     (RefusesCertificate document certificate files r ⊎ RefusesBehind document certificate files r))
 
--- the judgement that an outcome is
+-- the judgement that is printed for an outcome
 abbrev pub judgement_of : Outcome → Judgement
 judgement_of Accepted = judgements.Accepted
 judgement_of (Rejected fault) = judgements.Rejected fault.line fault.kind
 
 -- The judgement of the certificate over the network of the document and its files: that it is
--- accepted, or the first line that is rejected. It is accepted exactly where it is a report of
--- right verdicts on the document's policies.
+-- accepted, or the first line that is rejected. It is accepted exactly if it is a report of right
+-- verdicts on the document's policies.
 pub record IsChecked (document certificate : List ℕ) (files : Files) (done : Done) : Type 0 where
   pub doc : Document
   pub net : Network
@@ -84,8 +84,8 @@ pub record IsAcceptedReport (document certificate : List ℕ) (files : Files) : 
   pub report : IsReport net doc (bytes_at files certificate)
   pub are_true : AllZip (IsTrueOf net) doc.policies report.verdicts
 
--- they have a network and not too many classes, and the certificate is held, not too long, and no
--- such report
+-- the document and its files have a network and not too many classes, and the certificate is held,
+-- not too long, and no such report
 pub record IsRejected (document certificate : List ℕ) (files : Files) : Type 0 where
   pub doc : Document
   pub net : Network
@@ -94,8 +94,8 @@ pub record IsRejected (document certificate : List ℕ) (files : Files) : Type 0
   pub classes : PoliciesHaveFewClasses net doc.policies
   pub no_report : ¬ IsReport net doc (bytes_at files certificate)
 
--- they have no network, or their policies too many classes, or the certificate is missing or too
--- long, and there is a first reason for it
+-- the document, the certificate, the router files, their network or the number of classes is
+-- refused
 pub record IsUnchecked (document certificate : List ℕ) (files : Files) : Type 0 where
   pub refusal : FileRefusal
   pub refused : IsCheckRefusal document certificate files refusal

@@ -1,4 +1,4 @@
--- What the status of `check` says, of a certificate of either form.
+-- What the status of `check` says of a certificate of either form.
 use Rattle.std.specs.Prelude.{◌≡◌, ◌↔◌, ◌⊎◌, ℕ, ◌≤◌, List, [], length}
 use Rattle.arc_base.specs.declared.limits.TheConstants.{EDIT_LIMIT}
 use Rattle.arc_outside.specs.Files.{Files}
@@ -28,7 +28,8 @@ pub record IsJudgeable (document certificate : List ℕ) (files : Files) (doc : 
   pub few : length list ≤ EDIT_LIMIT
   pub counted : IsCounted net doc list (text_answers net doc list (bytes_at files certificate))
 
--- it is the certificate of a claim, and each claim that it is the certificate of is true
+-- the certificate is judged as that of a repair and is the certificate of a claim, and each claim
+-- that it is the certificate of is true
 pub record IsRepairAccepted (document certificate : List ℕ) (files : Files) : Type 0 where
   pub doc : Document
   pub net : Network
@@ -38,7 +39,7 @@ pub record IsRepairAccepted (document certificate : List ℕ) (files : Files) : 
   pub are_true : (claim : Claim) → Certifies net doc list claim (bytes_at files certificate) →
       IsTrueClaim net doc list claim
 
--- it is the certificate of no claim
+-- the certificate is judged as that of a repair and is the certificate of no claim
 pub record IsRepairRejected (document certificate : List ℕ) (files : Files) : Type 0 where
   pub doc : Document
   pub net : Network
@@ -46,14 +47,14 @@ pub record IsRepairRejected (document certificate : List ℕ) (files : Files) : 
   pub judgeable : IsJudgeable document certificate files doc net list
   pub not_certified : ¬ IsCertified net doc list (bytes_at files certificate)
 
--- the certificate shows a true claim on a repair; or it is another text, and a report whose
--- verdicts are right and true
+-- the certificate shows a true claim on a repair; or it does not begin as one of a repair, and is a
+-- report whose verdicts are right and true
 abbrev pub IsAnyAccepted : List ℕ → List ℕ → Files → Type 0
 IsAnyAccepted document certificate files =
     IsRepairAccepted document certificate files ⊎
     ((¬ HoldsRepair certificate files) × IsAcceptedReport document certificate files)
 
--- it begins as the certificate of a repair and is none; or it is another text, and no such report
+-- the certificate begins as that of a repair and is none; or it does not, and is no such report
 abbrev pub IsAnyRejected : List ℕ → List ℕ → Files → Type 0
 IsAnyRejected document certificate files =
     IsRepairRejected document certificate files ⊎

@@ -43,8 +43,8 @@ fn check_certificate<S: Store>(
 }
 
 /// Judges a certificate from the document, the router files and its own text alone. One that begins
-/// as that of a repair is judged as such, and any other as a report. It is read twice, each time
-/// line by line: for its size and its first line, and, after the router files, for its judgement.
+/// as that of a repair is judged as such, any other as a report. It is read twice, each time line
+/// by line: for its size and its first line, and, after the router files, to be judged.
 pub fn check<S: Store>(
     alloc: Global,
     document: &Name,

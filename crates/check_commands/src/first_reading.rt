@@ -1,4 +1,4 @@
-//! The first reading of a certificate: how long it is, and how it begins.
+//! The first reading of a certificate: its size and its first line.
 ghost use Rattle.check_commands.specs.Readings.{ReadsHead};
 ghost use Rattle.check_commands.specs.RepairChecks.{begins_repair};
 ghost use Rattle.run_files.specs.Answers.{OnlyReads};
@@ -16,8 +16,8 @@ fn is_head(line: &[u8]) -> bool
     line == b"arc-repair 1".as_slice()
 }
 
-/// Reads a certificate to its end, and says whether it begins as that of a repair; or refuses it.
-/// Nothing of it is kept.
+/// Reads a certificate to its end, and returns whether it begins as that of a repair, or refuses
+/// it. It keeps one line at a time in memory.
 pub fn begins_repair<S: Store>(
     alloc: Global,
     certificate: &Name,

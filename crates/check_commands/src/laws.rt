@@ -10,15 +10,15 @@ ghost use Rattle.std.specs.Prelude.{◌≡◌, ℕ, List};
 
 use repair_check::laws::outcome_is_unique;
 
-/// What the status of `check` says, of a certificate that is judged as a report.
+/// What the status of `check` says of a certificate that is judged as a report.
 pub fn check_is_told()
     ensures { (document certificate : List ℕ) →
         IsTold (IsCheckRefusal document certificate) (IsChecked document certificate)
         (λ status before after. TellsReportCheck document certificate status before) }
 {}
 
-/// The document, the certificate and the router files give at most one answer of `check` and at
-/// most one first refusal, and never both, for a certificate that is judged as a report.
+/// The document, the certificate and the router files give at most one answer of `check` or one
+/// first refusal, never both, for a certificate that is judged as a report.
 pub fn check_is_determined()
     ensures one_answer { (document certificate : List ℕ) (files : Files) (done other : Done)
         → IsChecked document certificate files done
@@ -31,15 +31,15 @@ pub fn check_is_determined()
         → IsCheckRefusal document certificate files r → ⊥ }
 {}
 
-/// What the status of `check` says, of a certificate of either form.
+/// What the status of `check` says of a certificate of either form.
 pub fn any_check_is_told()
     ensures { (document certificate : List ℕ) →
         IsTold (IsAnyRefusal document certificate) (IsAnyChecked document certificate)
         (λ status before after. TellsCheck document certificate status before) }
 {}
 
-/// The document, the certificate and the router files give at most one answer of `check` and at
-/// most one first refusal, and never both, for a certificate of either form.
+/// The document, the certificate and the router files give at most one answer of `check` or one
+/// first refusal, never both, for a certificate of either form.
 pub fn any_check_is_determined()
     ensures one_answer { (document certificate : List ℕ) (files : Files) (done other : Done)
         → IsAnyChecked document certificate files done

@@ -1,4 +1,4 @@
-//! The second reading of a repair's certificate: its lines are judged one by one.
+//! The second reading of a repair's certificate, which is judged line by line.
 ghost use Rattle.check_commands.specs.Readings.{JudgesRepair};
 ghost use Rattle.run_files.specs.Answers.{OnlyReads};
 ghost use Rattle.run_files.specs.Limits.{least_limit};
@@ -18,8 +18,8 @@ use run_inputs::fault_stop;
 use std::alloc::Global;
 use std::ops::ControlFlow;
 
-/// The judge of a repair's certificate over one network with its document, whose name it has for a
-/// refusal, and their edits.
+/// The judge of a repair's certificate for a network, its document, whose name a refusal has, and
+/// their edits.
 #[derive(Drop)]
 struct RepairLines<'a> {
     document: &'a Name,

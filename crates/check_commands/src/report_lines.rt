@@ -1,4 +1,4 @@
-//! The second reading of a report: its lines are judged one by one.
+//! The second reading of a report, which is judged line by line.
 ghost use Rattle.check_commands.specs.Readings.{JudgesReport};
 ghost use Rattle.check_commands.specs.ReportChecks.{judgement_of, IsChecked, RefusesInput};
 ghost use Rattle.net_doc.specs.Documents.{IsWellFormed};
@@ -22,7 +22,7 @@ use run_inputs::{count_classes, read_files};
 use std::alloc::Global;
 use std::ops::ControlFlow;
 
-/// The judgement that an outcome is.
+/// The judgement that `check` prints for an outcome.
 pub fn judgement_of(outcome: Outcome) -> Judgement
     ensures { result ≡ judgement_of outcome }
 {
@@ -106,8 +106,8 @@ fn judge_report<S: Store>(
 }
 
 /// Judges the certificate in a file as a report, from its document, the router files and its own
-/// lines alone. It is read after the router files, line by line; that its file is not refused is
-/// known before.
+/// lines alone. It is read after the router files, line by line; the first reading has shown that
+/// its file is not refused.
 pub fn check_lines<S: Store>(
     alloc: Global,
     document: &Name,

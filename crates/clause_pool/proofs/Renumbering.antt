@@ -23,7 +23,8 @@ use Rattle.clause_pool.proofs.Sound.{if-some, at-some, and-some, some-and}
 use Rattle.clause_pool.proofs.Kept.{At, same-state}
 use Rattle.clause_pool.proofs.Putting.{Becomes, becomes, lits-apart, put-at}
 
-pub id-over : (r new : Inside) (v : Blocks) (p id : ℕ) → IsSpelled r → blocks r ≡ v → Standing r v.live p → new.words.items ≡ set r.words.items p (number id) → new.room ≡ r.room → vec_capacity r.words ≤ vec_capacity new.words →
+pub id-over : (r new : Inside) (v : Blocks) (p id : ℕ) → IsSpelled r → blocks r ≡ v → Standing r v.live p → new.words.items ≡ set r.words.items p (number id) →
+    new.room ≡ r.room → vec_capacity r.words ≤ vec_capacity new.words →
     Kept new (record { end = v.end; room = v.room; live = changed v.live p (with_id id) })
 id-over r new v p id s view t items room cap =
     over r new v p (changed v.live p (with_id id)) (alive (with_id id t.block)) s view t refl
@@ -39,7 +40,8 @@ id-sound s p c id h is fresh =
     let here : clause_at new p ≡ Some d = get-changed_same s.clauses p g c is in
     let there : (q : Place) → (q ≡ p → ⊥) → clause_at new q ≡ clause_at s q = λ q o. get-changed_other s.clauses p q g o in
     -- the clause before the change that stands where one stands now
-    let before : (q : Place) (x : Entry) → clause_at new q ≡ Some x → (y : Entry) × (clause_at s q ≡ Some y) × (x.lits ≡ y.lits) × (((q ≡ p) × (x.id ≡ id)) ⊎ ((q ≡ p → ⊥) × (x.id ≡ y.id))) = λ q x e. elim (cases_eq q.0 p.0) [
+    let before : (q : Place) (x : Entry) → clause_at new q ≡ Some x →
+    (y : Entry) × (clause_at s q ≡ Some y) × (x.lits ≡ y.lits) × (((q ≡ p) × (x.id ≡ id)) ⊎ ((q ≡ p → ⊥) × (x.id ≡ y.id))) = λ q x e. elim (cases_eq q.0 p.0) [
       | inl at ↦
           let q_is : q ≡ p = same-place q p at in
           let x_is : d ≡ x = same_Some d x (sym here ∙ ap (clause_at new) (sym q_is) ∙ e) in
@@ -62,12 +64,14 @@ id-sound s p c id h is fresh =
             ]
             | inr (_, x_id) ↦ elim v.3 [
               | inl (_, y_id) ↦ at-some (clause_at s q) u.0 (λ (z : Entry). z.id ≢ id) u.1 (fresh q) (sym x_id ∙ same ∙ y_id)
-              | inr (_, y_id) ↦ at-some (clause_at s r) v.0 (λ (y : Entry). u.0.id ≢ y.id) v.1 (at-some (clause_at s q) u.0 (λ (z : Entry). IfSome (clause_at s r) (λ (y : Entry). z.id ≢ y.id)) u.1 (h.ids q r differ)) (sym x_id ∙ same ∙ y_id)
+              | inr (_, y_id) ↦ at-some (clause_at s r) v.0 (λ (y : Entry). u.0.id ≢ y.id) v.1
+                  (at-some (clause_at s q) u.0 (λ (z : Entry). IfSome (clause_at s r) (λ (y : Entry). z.id ≢ y.id)) u.1 (h.ids q r differ)) (sym x_id ∙ same ∙ y_id)
             ]
           ]));
       watched = λ q. if-some (clause_at new q) _ (λ x e.
           let u = before q x e in
-          subst (λ (ls : List Lit). Contains (chain s (lit_at ls 0)) q × Contains (chain s (lit_at ls 1)) q) (sym u.2) (at-some (clause_at s q) u.0 (λ (y : Entry). Contains (chain s (lit_at y.lits 0)) q × Contains (chain s (lit_at y.lits 1)) q) u.1 (h.watched q)));
+          subst (λ (ls : List Lit). Contains (chain s (lit_at ls 0)) q × Contains (chain s (lit_at ls 1)) q) (sym u.2)
+          (at-some (clause_at s q) u.0 (λ (y : Entry). Contains (chain s (lit_at y.lits 0)) q × Contains (chain s (lit_at y.lits 1)) q) u.1 (h.watched q)));
       watches = λ q l m.
           let k = and-some (clause_at s q) (λ (x : Entry). IsWatch x.lits l) (h.watches q l m) in
           elim (cases_eq q.0 p.0) [
@@ -81,7 +85,8 @@ id-sound s p c id h is fresh =
     }
 
 -- a clause is given another id
-pub renumbered-whole : (a : PoolInside) (s : State) (p : Place) (t : At a.region.live s p) (id : ℕ) (r : Blocks) → IsKept a → state a ≡ s → IsFreshId s id → r ≡ record { end = a.region.end; room = a.region.room; live = changed a.region.live p.0 (with_id id) } →
+pub renumbered-whole : (a : PoolInside) (s : State) (p : Place) (t : At a.region.live s p) (id : ℕ) (r : Blocks) → IsKept a → state a ≡ s → IsFreshId s id →
+    r ≡ record { end = a.region.end; room = a.region.room; live = changed a.region.live p.0 (with_id id) } →
     Becomes (record { vars = a.vars; region = r; heads = a.heads }) (with_id_at s p id)
 renumbered-whole a s p t id r k view fresh is =
     let heads = a.heads.items in
@@ -97,5 +102,6 @@ renumbered-whole a s p t id r k view fresh is =
     ap (λ (v : Blocks). clauses_of v.live) is ∙ ap (λ m. clauses_of m) (changed-is a.region.live p.0 (with_id id) b t.seen) ∙ clauses-inserted a.region.live p (with_id id b)
     ∙ ap (λ (u : State). insert u.clauses p (g (entry_of b))) view ∙ sym (put-at s p (entry_of b) g t.entry) in
     becomes _ _ l.linked
-    (same-state a.vars _ _ _ _ _ _ (ap (λ (v : Blocks). v.room) is) clauses l.is ∙ ap (λ (u : State). let w : State = record { vars = u.vars; spare = u.spare; clauses = changed s.clauses p g; chains = u.chains } in w) view)
+    (same-state a.vars _ _ _ _ _ _ (ap (λ (v : Blocks). v.room) is) clauses l.is
+    ∙ ap (λ (u : State). let w : State = record { vars = u.vars; spare = u.spare; clauses = changed s.clauses p g; chains = u.chains } in w) view)
     (id-sound s p (entry_of b) id sound t.entry fresh)

@@ -1,5 +1,6 @@
 -- A clause over the variables from 1 to n is told by a number below 3 ^ n.
-use Rattle.std.proofs.Common.{◌≡◌, ◌≢◌, ℕ, zero, suc, ◌+◌, ◌*◌, ◌<◌, ◌≤◌, ◌^◌, ◌⊎◌, Bool, true, false, if◌then◌else◌, ◌%◌, ◌||◌, List, [], ◌∷◌, All, AllPairs, Contains, refl, sym, ap, ◌∙◌, subst, arith, inl, inr, ⊎_elim, length, get_or}
+use Rattle.std.proofs.Common.{◌≡◌, ◌≢◌, ℕ, zero, suc, ◌+◌, ◌*◌, ◌<◌, ◌≤◌, ◌^◌, ◌⊎◌, Bool, true, false, if◌then◌else◌, ◌%◌, ◌||◌}
+use Rattle.std.proofs.Common.{List, [], ◌∷◌, All, AllPairs, Contains, refl, sym, ap, ◌∙◌, subst, arith, inl, inr, ⊎_elim, length, get_or}
 use Rattle.std.specs.List.{list_any}
 use Rattle.std.proofs.Math.Nat.{pow-suc}
 use Rattle.std.proofs.lemmas.Bool.{cases_Bool, cases_lt, cases_eq, false≢true, or_cases, eqb-true, eq-eqb}
@@ -133,7 +134,9 @@ same_literals c d n different e l least most held =
       | inr is ↦
           let here : is_among c (literal v false) ≡ true = subst (λ m. is_among c m ≡ true) is (among_contains c l held) in
           let none : is_among c (literal v true) ≡ false = elim (cases_Bool (is_among c (literal v true))) [
-            | inl is_true ↦ absurd (literal_apart v (one_of_a_variable c different (literal v true) (literal v false) (contains_among c (literal v true) is_true) (contains_among c (literal v false) here) (variable_literal v true ∙ sym (variable_literal v false))))
+            | inl is_true ↦ absurd
+                (literal_apart v (one_of_a_variable c different (literal v true) (literal v false) (contains_among c (literal v true) is_true) (contains_among c (literal v false) here)
+                (variable_literal v true ∙ sym (variable_literal v false))))
             | inr is_false ↦ is_false
           ] in
           let there : is_among d (literal v false) ≡ true = from_two d v (sym digits ∙ digit_false c v none here) in

@@ -1,5 +1,6 @@
 -- A spent log of a small formula is short: its clauses have different numbers, none of them the empty clause's.
-use Rattle.std.proofs.Common.{◌≡◌, ◌≢◌, ℕ, zero, suc, ◌+◌, ◌*◌, ◌^◌, ◌<◌, ◌≤◌, Bool, true, false, cond, ◌==◌, eqb, nat_lt, List, [], ◌∷◌, length, map, drop, All, Contains, Option, Some, None, refl, sym, ap, ◌∙◌, subst, arith, IsFalse, slice_get, option_map, ⊎_elim, ◌⊎◌, inl, inr, ℤ, length-drop}
+use Rattle.std.proofs.Common.{◌≡◌, ◌≢◌, ℕ, zero, suc, ◌+◌, ◌*◌, ◌^◌, ◌<◌, ◌≤◌, Bool, true, false, cond, ◌==◌, eqb, nat_lt, List, [], ◌∷◌, length}
+use Rattle.std.proofs.Common.{map, drop, All, Contains, Option, Some, None, refl, sym, ap, ◌∙◌, subst, arith, IsFalse, slice_get, option_map, ⊎_elim, ◌⊎◌, inl, inr, ℤ, length-drop}
 use Rattle.std.specs.List.{list_any, IsDistinct, AllByRecursion}
 use Rattle.std.proofs.Math.Nat.{pow-suc}
 use Rattle.std.proofs.lemmas.Bool.{false≢true, or_cases, eqb-true, eq-eqb, ne_eqb, ltb-true}
@@ -78,16 +79,20 @@ module _ (vars : ℕ) where
   -- so there are fewer than numbers
   few : (k : Knowledge) (learned : List (List Lit)) → Before k learned → length learned < 3 ^ vars
   few k learned b =
-      let most : length (0 ∷ numbers learned) ≤ 3 ^ vars = length-le_from_distinct_below (0 ∷ numbers learned) (3 ^ vars) (IsDistinct-cons eqb 0 (numbers learned) (none_is_zero k.clause learned b.all) b.apart) (with_zero_small learned) in
+      let most : length (0 ∷ numbers learned) ≤ 3 ^ vars = length-le_from_distinct_below (0 ∷ numbers learned) (3 ^ vars)
+      (IsDistinct-cons eqb 0 (numbers learned) (none_is_zero k.clause learned b.all) b.apart) (with_zero_small learned) in
       let size : length (numbers learned) ≡ length learned = length-map learned (λ lits. code lits vars) in
       omega (arith, most, size)
 
   -- the number of a new clause is that of none before it
-  new_number : (clause : ℕ → Option (List Lit)) (lits : List Lit) (hints : List ℤ) → IsNew clause lits hints → (learned : List (List Lit)) → All (IsLearned clause) learned → AllByRecursion (λ n. eqb (code lits vars) n ≡ false) (numbers learned)
+  new_number : (clause : ℕ → Option (List Lit)) (lits : List Lit) (hints : List ℤ) → IsNew clause lits hints → (learned : List (List Lit)) →
+      All (IsLearned clause) learned → AllByRecursion (λ n. eqb (code lits vars) n ≡ false) (numbers learned)
   new_number clause lits hints new [] all = tt
   new_number clause lits hints new (old ∷ learned) all =
-      let is : IsLearned clause old = All-head (IsLearned clause) old learned all in
-      (ne_eqb (code lits vars) (code old vars) (λ e. no_subset clause lits new.finds_more is.id old is.live (old_in_new is e)), new_number clause lits hints new learned (All-tail (IsLearned clause) old learned all))
+      let is : IsLearned clause old = All-head (IsLearned clause) old learned all in (
+        ne_eqb (code lits vars) (code old vars) (λ e. no_subset clause lits new.finds_more is.id old is.live (old_in_new is e)),
+        new_number clause lits hints new learned (All-tail (IsLearned clause) old learned all),
+      )
     where
       old_in_new : IsLearned clause old → code lits vars ≡ code old vars → (l : Lit) → Contains old l → Contains lits l
       old_in_new is e l held =
@@ -98,7 +103,8 @@ module _ (vars : ℕ) where
   kept_live : (k : Knowledge) (id : ℕ) (lits other : List Lit) (j : ℕ) → k.last < id → j ≤ k.last → k.clause j ≡ Some other → with_clause k.clause id lits j ≡ Some other
   kept_live k id lits other j rises below is = ap (λ b. cond b (Some lits) (k.clause j)) (ne_eqb id j (λ e. omega (arith, rises, below, e))) ∙ is
 
-  kept_learned : (k : Knowledge) (learned : List (List Lit)) → Before k learned → (id : ℕ) (lits other : List Lit) → k.last < id → IsLearned k.clause other → IsLearned (with_clause k.clause id lits) other
+  kept_learned : (k : Knowledge) (learned : List (List Lit)) → Before k learned → (id : ℕ) (lits other : List Lit) → k.last < id → IsLearned k.clause other →
+      IsLearned (with_clause k.clause id lits) other
   kept_learned k learned b id lits other rises is = record {
     id = is.id;
     live = kept_live k id lits other is.id rises (b.ids is.id other is.live) is.live;
@@ -112,7 +118,8 @@ module _ (vars : ℕ) where
   now_live clause id lits = ap (λ b. cond b (Some lits) (clause id)) (eq-eqb id id refl)
 
   -- what a clause under a higher id is: the new one, or one from before
-  which : (clause : ℕ → Option (List Lit)) (id : ℕ) (lits other : List Lit) (j : ℕ) (b : Bool) → eqb id j ≡ b → cond b (Some lits) (clause j) ≡ Some other → ((id ≡ j) × (lits ≡ other)) ⊎ (clause j ≡ Some other)
+  which : (clause : ℕ → Option (List Lit)) (id : ℕ) (lits other : List Lit) (j : ℕ) (b : Bool) → eqb id j ≡ b → cond b (Some lits) (clause j) ≡ Some other →
+      ((id ≡ j) × (lits ≡ other)) ⊎ (clause j ≡ Some other)
   which clause id lits other j true e h = inl (eqb-true id j e, same_Some lits other h)
   which clause id lits other j false e h = inr h
 
@@ -120,7 +127,8 @@ module _ (vars : ℕ) where
   filled [] e = absurd (false≢true (sym e))
   filled (l ∷ lits) e = (l, Contains-head l lits)
 
-  added : (k : Knowledge) (learned : List (List Lit)) → Before k learned → (id : ℕ) (lits : List Lit) (hints : List ℤ) → k.last < id → IsFalse (is_empty lits) → IsNew k.clause lits hints → Before (after k (Add id lits hints)) (lits ∷ learned)
+  added : (k : Knowledge) (learned : List (List Lit)) → Before k learned → (id : ℕ) (lits : List Lit) (hints : List ℤ) → k.last < id → IsFalse (is_empty lits) →
+      IsNew k.clause lits hints → Before (after k (Add id lits hints)) (lits ∷ learned)
   added k learned b id lits hints rises some new =
       let its : IsWithin vars lits = new_within k.clause vars b.within lits hints new in
       let first : (l : Lit) × Contains lits l = filled lits some in
@@ -129,7 +137,8 @@ module _ (vars : ℕ) where
         within = λ j other h. elim (which k.clause id lits other j (eqb id j) refl h) [ inl is ↦ subst (IsWithin vars) is.1 its | inr old ↦ b.within j other old ];
         ids = λ j other h. elim (which k.clause id lits other j (eqb id j) refl h) [ inl is ↦ omega (arith, is.0) | inr old ↦ omega (arith, rises, b.ids j other old) ];
         no_tops = b.no_tops;
-        all = All-cons (IsLearned (with_clause k.clause id lits)) lits learned here (All-weaker (IsLearned k.clause) (IsLearned (with_clause k.clause id lits)) (λ other is. kept_learned k learned b id lits other rises is) learned b.all);
+        all = All-cons (IsLearned (with_clause k.clause id lits)) lits learned here
+            (All-weaker (IsLearned k.clause) (IsLearned (with_clause k.clause id lits)) (λ other is. kept_learned k learned b id lits other rises is) learned b.all);
         apart = IsDistinct-cons eqb (code lits vars) (numbers learned) (new_number k.clause lits hints new learned b.all) b.apart;
       }
 
@@ -158,7 +167,8 @@ module _ (vars : ℕ) where
       let held : Contains (drop count added) id = All-head (λ i. Contains (drop count added) i) id ids all in
       absurd (omega (arith, held.1, length-drop count added, few))
 
-  short : (steps : List Step) (k : Knowledge) (ids : List ℕ) (drops : ℕ) (learned : List (List Lit)) → 3 ^ vars ≤ 1000 → Before k learned → length ids ≡ length learned → IsCleanAfter k ids drops steps → length learned + additions steps < 3 ^ vars
+  short : (steps : List Step) (k : Knowledge) (ids : List ℕ) (drops : ℕ) (learned : List (List Lit)) → 3 ^ vars ≤ 1000 → Before k learned →
+      length ids ≡ length learned → IsCleanAfter k ids drops steps → length learned + additions steps < 3 ^ vars
   short [] k ids drops learned small b size clean = omega (arith, few k learned b)
   short (Add id lits hints ∷ steps) k ids drops learned small b size (ok, (some, new), rest) =
       let up : k.last < id = rises k.last id (chain_fault k.clause (is_among lits) 0 hints) (nat_lt k.last id) refl ok in
@@ -169,7 +179,8 @@ module _ (vars : ℕ) where
   short (Bound id price ∷ steps) k ids drops learned small b size (ok, only, rest) =
       absurd (no_bound (is_too_low k.least price) price k.tops b.no_tops (under_id (nat_lt k.last id) (bound_fault k.least k.tops price) ok))
 
-  clause_of : (clauses : List Clause) (n : ℕ) (c : Option Clause) (lits : List Lit) → slice_get clauses n ≡ c → option_map (λ (d : Clause). d.lits) c ≡ Some lits → (d : Clause) × (slice_get clauses n ≡ Some d) × (d.lits ≡ lits)
+  clause_of : (clauses : List Clause) (n : ℕ) (c : Option Clause) (lits : List Lit) → slice_get clauses n ≡ c →
+      option_map (λ (d : Clause). d.lits) c ≡ Some lits → (d : Clause) × (slice_get clauses n ≡ Some d) × (d.lits ≡ lits)
   clause_of clauses n None lits is e = absurd (none-some lits e)
   clause_of clauses n (Some d) lits is e = (d, is, same_Some d.lits lits e)
 

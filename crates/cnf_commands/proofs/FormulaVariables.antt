@@ -1,5 +1,6 @@
 -- The variables of a formula that was read are from 1 to the number in its header, which is not too large.
-use Rattle.std.proofs.Common.{◌≡◌, ◌≤◌, ◌==◌, ◌&&◌, ℕ, zero, suc, ℤ, pos, negsuc, unsigned_abs, Bool, true, false, List, [], ◌∷◌, map, length, Option, Some, None, IfSome, All, Result, Ok, Err, cond, if◌then◌else◌, option_map, option_and_then, nat_lt, nat_le, refl, subst, arith, sum_by}
+use Rattle.std.proofs.Common.{◌≡◌, ◌≤◌, ◌==◌, ◌&&◌, ℕ, zero, suc, ℤ, pos, negsuc, unsigned_abs, Bool, true, false, List, [], ◌∷◌, map}
+use Rattle.std.proofs.Common.{length, Option, Some, None, IfSome, All, Result, Ok, Err, cond, if◌then◌else◌, option_map, option_and_then, nat_lt, nat_le, refl, subst, arith, sum_by}
 use Rattle.std.specs.List.{slice_split, onto_first, cons_option}
 use Rattle.std.specs.Option.{option_map_or}
 use Rattle.std.proofs.lemmas.Bool.{and_parts, eqb-false, leb-true, ltb-false}
@@ -61,7 +62,7 @@ all_small vars (l ∷ ls) = All-append (Small vars) (line_numbers vars (line_wor
 
 -- ---- literals
 
--- a number of a variable, whatever its sign
+-- the number of a variable, whatever its sign
 abbrev Names : ℕ → ℤ → Type 0
 Names vars z = (1 ≤ unsigned_abs z) × (unsigned_abs z ≤ vars)
 

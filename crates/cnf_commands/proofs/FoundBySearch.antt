@@ -1,4 +1,4 @@
--- What a search over the formula's core tells, as what `solve` answers.
+-- The result of a search over the formula's core as the answer of `solve`.
 use Rattle.std.proofs.Common.{◌≡◌, ◌∙◌, ℕ, List, [], ◌++◌, None, refl, sym, ap, subst}
 use Rattle.cnf_types.specs.declared.clauses.Formula.{Formula}
 use Rattle.cnf_types.specs.Formulas.{value_at}
@@ -21,7 +21,8 @@ all_appended P old new more empty is h = subst P (sym (is ∙ ap (λ steps. step
 
 pub is_found : (f : Formula) (limit : ℕ) (log : Log) (found : Found) (old new : State) (steps : List Step) → old ≡ core_of f → steps ≡ []
     → IfModel found (IsModelOf new) → IfModel found (λ values. KeepsOthers (added_by [] steps) old.clauses new.clauses) → IfModel found (λ values. new.vars ≡ old.vars)
-    → (found ≡ Refuted → IsRefuting log.steps) → (found ≡ Budget → IsSpent f None [] limit log.steps) → IfModel found (λ values. IsClean f None [] log.steps) → IsAccepted (start f None []) log.steps → IsSearchResult f limit log found
+    → (found ≡ Refuted → IsRefuting log.steps) → (found ≡ Budget → IsSpent f None [] limit log.steps) → IfModel found (λ values. IsClean f None [] log.steps) →
+    IsAccepted (start f None []) log.steps → IsSearchResult f limit log found
 is_found f limit log (Model values) old new steps core empty model others vars refuting spent clean accepted = (
   record {
     one_each = model.size ∙ (vars ∙ ap (λ (s : State). s.vars) core);

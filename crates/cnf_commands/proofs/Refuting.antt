@@ -28,17 +28,18 @@ use Rattle.run_files.specs.Refusals.{bytes_at, read_refusal}
 use Rattle.run_files.proofs.OneAnswer.{refused_none}
 use Rattle.std.specs.Option.{option_or}
 
--- the refusal of the formula is the first
+-- the refusal of the formula comes first
 first_of : (cnf proof : List ℕ) (files : Files) (r : FileRefusal) → cnf_refusal cnf files ≡ Some r → lrat_refusal cnf proof files ≡ Some r
 unfolding lrat_refusal
 first_of cnf proof files r e = ap (λ (o : Option FileRefusal). option_or o (read_refusal proof_limit files proof)) e
 
--- that of the proof comes where the formula has none
+-- the refusal of the proof comes if the formula is not refused
 then_of : (cnf proof : List ℕ) (files : Files) (o : Option FileRefusal) → cnf_refusal cnf files ≡ None → read_refusal proof_limit files proof ≡ o → lrat_refusal cnf proof files ≡ o
 unfolding lrat_refusal
 then_of cnf proof files o none e = ap (λ (u : Option FileRefusal). option_or u (read_refusal proof_limit files proof)) none ∙ e
 
-pub formula_stopped : (held : Option Files) (cnf proof : List ℕ) (stop : Stop) → IfSome held (λ files. MakesChecker cnf files (Err stop)) → Answers IsJudging (IsLratRefusal cnf proof) (IsJudged cnf proof) held (Err stop)
+pub formula_stopped : (held : Option Files) (cnf proof : List ℕ) (stop : Stop) → IfSome held (λ files. MakesChecker cnf files (Err stop)) →
+    Answers IsJudging (IsLratRefusal cnf proof) (IsJudged cnf proof) held (Err stop)
 formula_stopped None cnf proof (stops.Refused r) told = tt
 formula_stopped None cnf proof stops.Memory told = tt
 formula_stopped None cnf proof stops.Failed told = tt
@@ -46,7 +47,8 @@ formula_stopped (Some files) cnf proof (stops.Refused r) told = first_of cnf pro
 formula_stopped (Some files) cnf proof stops.Memory told = tt
 formula_stopped (Some files) cnf proof stops.Failed told = tt
 
-proof_stopped_here : (held : Option Files) (cnf proof : List ℕ) (checker : Checker) (stop : Stop) → IfSome held (λ files. MakesChecker cnf files (Ok checker)) → IfSome held (λ files. IsWithinLimit proof_limit files proof (Err stop)) → Answers IsJudging (IsLratRefusal cnf proof) (IsJudged cnf proof) held (Err stop)
+proof_stopped_here : (held : Option Files) (cnf proof : List ℕ) (checker : Checker) (stop : Stop) → IfSome held (λ files. MakesChecker cnf files (Ok checker)) →
+    IfSome held (λ files. IsWithinLimit proof_limit files proof (Err stop)) → Answers IsJudging (IsLratRefusal cnf proof) (IsJudged cnf proof) held (Err stop)
 proof_stopped_here None cnf proof checker (stops.Refused r) formula told = tt
 proof_stopped_here None cnf proof checker stops.Memory formula told = tt
 proof_stopped_here None cnf proof checker stops.Failed formula told = tt
@@ -54,7 +56,9 @@ proof_stopped_here (Some files) cnf proof checker (stops.Refused r) formula told
 proof_stopped_here (Some files) cnf proof checker stops.Memory formula told = tt
 proof_stopped_here (Some files) cnf proof checker stops.Failed formula told = tt
 
-pub proof_stopped : (held now : Option Files) → now ≡ held → (cnf proof : List ℕ) (checker : Checker) (stop : Stop) → IfSome held (λ files. MakesChecker cnf files (Ok checker)) → IfSome now (λ files. IsWithinLimit proof_limit files proof (Err stop)) → Answers IsJudging (IsLratRefusal cnf proof) (IsJudged cnf proof) held (Err stop)
+pub proof_stopped : (held now : Option Files) → now ≡ held → (cnf proof : List ℕ) (checker : Checker) (stop : Stop) →
+    IfSome held (λ files. MakesChecker cnf files (Ok checker)) → IfSome now (λ files. IsWithinLimit proof_limit files proof (Err stop)) →
+    Answers IsJudging (IsLratRefusal cnf proof) (IsJudged cnf proof) held (Err stop)
 proof_stopped held now same cnf proof checker stop formula told =
     let P : Option Files → Type 0 = λ o. IfSome o (λ files. IsWithinLimit proof_limit files proof (Err stop)) in
     proof_stopped_here held cnf proof checker stop formula (subst P same told)
@@ -64,8 +68,10 @@ known_formula : (r : Result Formula CnfFault) (k : Knowledge) → IsOkAnd r (λ 
 known_formula (Ok f) k is = (f, refl, is)
 known_formula (Err fault) k is = absurd is
 
-judged_here : (held : Option Files) (cnf proof : List ℕ) (checker : Checker) (judgement : Judgement) (done : Done) → IfSome held (λ files. MakesChecker cnf files (Ok checker)) → IfSome held (λ files. IsWithinLimit proof_limit files proof (Ok tt)) →
-    IfSome held (λ files. JudgesProof proof_limit files proof (known checker) (Ok judgement)) → done.text ≡ judgement_text (judgement_of judgement) → done.status ≡ judgement_status (judgement_of judgement) → IsJudging done → Answers IsJudging (IsLratRefusal cnf proof) (IsJudged cnf proof) held (Ok done)
+judged_here : (held : Option Files) (cnf proof : List ℕ) (checker : Checker) (judgement : Judgement) (done : Done) →
+    IfSome held (λ files. MakesChecker cnf files (Ok checker)) → IfSome held (λ files. IsWithinLimit proof_limit files proof (Ok tt)) →
+    IfSome held (λ files. JudgesProof proof_limit files proof (known checker) (Ok judgement)) → done.text ≡ judgement_text (judgement_of judgement) →
+    done.status ≡ judgement_status (judgement_of judgement) → IsJudging done → Answers IsJudging (IsLratRefusal cnf proof) (IsJudged cnf proof) held (Ok done)
 judged_here None cnf proof checker judgement done formula tried judged text status own = (own, tt)
 judged_here (Some files) cnf proof checker judgement done formula tried judged text status own =
     let read = known_formula (reading (bytes_at files cnf)) (known checker) formula.1 in
@@ -86,14 +92,16 @@ judged_here (Some files) cnf proof checker judgement done formula tried judged t
       },
     )
 
-pub judged : (held now later : Option Files) → now ≡ held → later ≡ now → (cnf proof : List ℕ) (checker : Checker) (judgement : Judgement) (done : Done) → IfSome held (λ files. MakesChecker cnf files (Ok checker)) → IfSome now (λ files. IsWithinLimit proof_limit files proof (Ok tt)) →
-    IfSome later (λ files. JudgesProof proof_limit files proof (known checker) (Ok judgement)) → done.text ≡ judgement_text (judgement_of judgement) → done.status ≡ judgement_status (judgement_of judgement) → IsJudging done → Answers IsJudging (IsLratRefusal cnf proof) (IsJudged cnf proof) held (Ok done)
+pub judged : (held now later : Option Files) → now ≡ held → later ≡ now → (cnf proof : List ℕ) (checker : Checker) (judgement : Judgement) (done : Done) →
+    IfSome held (λ files. MakesChecker cnf files (Ok checker)) → IfSome now (λ files. IsWithinLimit proof_limit files proof (Ok tt)) →
+    IfSome later (λ files. JudgesProof proof_limit files proof (known checker) (Ok judgement)) → done.text ≡ judgement_text (judgement_of judgement) →
+    done.status ≡ judgement_status (judgement_of judgement) → IsJudging done → Answers IsJudging (IsLratRefusal cnf proof) (IsJudged cnf proof) held (Ok done)
 judged held now later same still cnf proof checker judgement done formula tried told =
     let P : Option Files → Type 0 = λ o. IfSome o (λ files. IsWithinLimit proof_limit files proof (Ok tt)) in
     let Q : Option Files → Type 0 = λ o. IfSome o (λ files. JudgesProof proof_limit files proof (known checker) (Ok judgement)) in
     judged_here held cnf proof checker judgement done formula (subst P same tried) (subst Q (still ∙ same) told)
 
--- what a status says
+-- what each status says
 one_formula : (text : List ℕ) (f g : Formula) → reading text ≡ Ok f → reading text ≡ Ok g → f ≡ g
 one_formula text f g e h = cc
 

@@ -1,4 +1,4 @@
--- What a search over a formula's clauses finds, said of the formula.
+-- The result of a search over a formula's clauses, as one about the formula.
 use Rattle.std.proofs.Common.{◌≡◌, ℕ, suc, Bool, IsTrue, List, [], ◌∷◌, length, get_or, All, Contains, Some, None, ap, ◌∙◌, arith}
 use Rattle.cnf_types.specs.declared.clauses.Formula.{Formula}
 use Rattle.cnf_types.specs.Formulas.{Satisfies, clause_value}
@@ -21,14 +21,15 @@ no-ids = []
 none-held : (ids : List ℕ) → ids ≡ no-ids → (id : ℕ) → Contains ids id → ⊥
 none-held ids none id held = omega (arith, held.1, ap length none)
 
--- where the clauses of the formula stay, and all that are live in the end are true, the formula is satisfied
-pub stays_satisfied : (f : Formula) (a : ℕ → Bool) (added : List ℕ) (old new : List Numbered) → old ≡ numbered f.clauses → added ≡ no-ids → KeepsOthers added old new → All (λ c. IsTrue (clause_value a c.lits)) new → Satisfies a f
+-- if the clauses of the formula are never dropped, and all that are live in the end are true, the formula is satisfied
+pub stays_satisfied : (f : Formula) (a : ℕ → Bool) (added : List ℕ) (old new : List Numbered) → old ≡ numbered f.clauses → added ≡ no-ids →
+    KeepsOthers added old new → All (λ c. IsTrue (clause_value a c.lits)) new → Satisfies a f
 stays_satisfied f a added old new old_is none others all k d low =
     let lits = (get_or f.clauses k d).lits in
     let is : clause_in old (suc k) ≡ Some lits = ap (λ (cs : List Numbered). clause_in cs (suc k)) old_is ∙ live_at f.clauses k d low in
     of_id (λ ls. IsTrue (clause_value a ls)) new all (suc k) lits (others (suc k) lits is (none-held added none (suc k)))
 
--- ---- without bounds, an accepted log that adds the empty clause leaves no assignment
+-- ---- without bounds, an accepted log that adds the empty clause leaves no satisfying assignment
 
 no_bounds : (a : ℕ → Bool) (steps : List Step) → KeepsBounds a [] steps
 no_bounds a [] = tt

@@ -17,7 +17,7 @@ use Rattle.run_files.specs.Refusals.{bytes_at, refusal_of, read_refusal}
 use Rattle.std.specs.Option.{option_or}
 use Rattle.arc_base.specs.declared.limits.TheConstants.{FORMULA_FILE_LIMIT}
 
--- how many bytes a formula may have
+-- how many bytes a formula's file may have
 abbrev pub cnf_limit : ℕ
 cnf_limit = FORMULA_FILE_LIMIT
 
@@ -32,7 +32,7 @@ faulty cnf (faults.Count line) =
 faulty cnf (faults.TooLarge what count) = Some (refusal_of cnf 0 (Limit what count))
 faulty cnf faults.Memory = None
 
--- the refusal of a text that is read as this: none where it has a formula
+-- the refusal of a text, given how it is read: none if it has a formula
 abbrev pub formula_refusal : List ℕ → Result Formula CnfFault → Option FileRefusal
 formula_refusal cnf (Ok f) = None
 formula_refusal cnf (Err fault) = faulty cnf fault
@@ -43,13 +43,14 @@ cnf_refusal cnf files =
     option_or (read_refusal cnf_limit files cnf)
     (formula_refusal cnf (reading (bytes_at files cnf)))
 
--- what reading the formula answers
+-- the answer of reading the formula: the formula, or its first refusal
 abbrev pub ReadsFormula : List ℕ → Files → Result Formula Stop → Type 0
 ReadsFormula cnf files result =
     Gives (λ r. cnf_refusal cnf files ≡ Some r)
     (λ f. (cnf_refusal cnf files ≡ None) × (reading (bytes_at files cnf) ≡ Ok f)) result
 
--- what reading the formula into a checker answers
+-- the answer of reading the formula into a checker: one that knows the formula, or the first
+-- refusal
 abbrev pub MakesChecker : List ℕ → Files → Result Checker Stop → Type 0
 MakesChecker cnf files result =
     Gives (λ r. cnf_refusal cnf files ≡ Some r)

@@ -23,12 +23,12 @@ use Rattle.std.specs.Option.{option_or}
 use Rattle.cnf_commands.specs.Formulas.{cnf_refusal}
 use Rattle.run_files.specs.Judgements.{judgement_status, judgement_text}
 
--- the formula first, and then the proof
+-- the first refusal: that of the formula's file, and then that of the proof's file
 unfoldable pub lrat_refusal : List ℕ → List ℕ → Files → Option FileRefusal
 lrat_refusal cnf proof files =
     option_or (cnf_refusal cnf files) (read_refusal proof_limit files proof)
 
--- it is the one or the other
+-- this is the first refusal of the formula or the proof
 abbrev pub IsLratRefusal : List ℕ → List ℕ → Files → FileRefusal → Type 0
 IsLratRefusal cnf proof files r = lrat_refusal cnf proof files ≡ Some r
 
@@ -38,13 +38,13 @@ rejection_kind rejections.Form = kinds.Form
 rejection_kind (rejections.Fault fault) = fault_kind fault
 rejection_kind rejections.NotRefuted = kinds.NotRefuted
 
--- the judgement that an outcome is
+-- the judgement that is printed for an outcome
 abbrev pub judgement_of : Outcome → Judgement
 judgement_of Accepted = judgements.Accepted
 judgement_of (Rejected line rejection) = judgements.Rejected line (rejection_kind rejection)
 
 -- The judgement of the proof: the first line that is rejected, or that it is accepted. It is
--- accepted exactly where it is an accepted log that adds the empty clause, and then no assignment
+-- accepted exactly if it is an accepted log that adds the empty clause, and then no assignment
 -- satisfies the formula.
 pub record IsJudged (cnf proof : List ℕ) (files : Files) (done : Done) : Type 0 where
   pub held : lrat_refusal cnf proof files ≡ None
@@ -67,7 +67,7 @@ pub record IsRefuted (cnf proof : List ℕ) (files : Files) : Type 0 where
   pub refutes : IsRefutation formula (bytes_at files proof)
   pub unsatisfiable : (assignment : ℕ → Bool) → Satisfies assignment formula → ⊥
 
--- they are held, and the proof is no such log
+-- the formula and the proof are held, and the proof is no such log
 pub record IsNotRefuted (cnf proof : List ℕ) (files : Files) : Type 0 where
   pub held : lrat_refusal cnf proof files ≡ None
   pub formula : Formula

@@ -1,4 +1,4 @@
--- What judging the lines of a proof answers.
+-- The answer of judging the lines of a proof.
 use Rattle.std.specs.Prelude.{◌≡◌, ℕ, List, Some, Result}
 use Rattle.arc_outside.specs.Files.{Files}
 use Rattle.arc_base.specs.TextLines.{lines}
@@ -9,7 +9,7 @@ use Rattle.run_files.specs.declared.outcome.Stop.{Stop}
 use Rattle.run_files.specs.Answers.{Gives}
 use Rattle.run_files.specs.Refusals.{bytes_at, read_refusal}
 
--- the outcome of the lines of a proof for one who knows so much, or a refusal of its file
+-- the outcome of the lines of a proof, given what is known before them, or a refusal of its file
 abbrev pub JudgesProof : ℕ → Files → List ℕ → Knowledge → Result Outcome Stop → Type 0
 JudgesProof limit files proof k result =
     Gives (λ r. read_refusal limit files proof ≡ Some r)

@@ -27,7 +27,7 @@ use Rattle.std.specs.Option.{option_or}
 use Rattle.cnf_commands.specs.Formulas.{cnf_refusal}
 use Rattle.cnf_commands.specs.Lrats.{IsRefuted}
 
--- the proof may not be written over the formula
+-- the refusal of the proof's name, if the proof would be written over the formula
 abbrev pub name_refusal : SolveWords → Option FileRefusal
 name_refusal words =
     if bytes_eq words.proof words.formula
@@ -37,19 +37,19 @@ name_refusal words =
 abbrev pub solve_refusal : SolveWords → Files → Option FileRefusal
 solve_refusal words files = option_or (cnf_refusal words.formula files) (name_refusal words)
 
--- it is the one or the other
+-- this is the first refusal of the formula or the proof's name
 abbrev pub IsSolveRefusal : SolveWords → Files → FileRefusal → Type 0
 IsSolveRefusal words files r = solve_refusal words files ≡ Some r
 
--- a variable that is true, or the negation of one that is false
+-- the literal of a variable with this value: its number, after a minus sign if it is false
 abbrev pub value_text : ℕ → Bool → List ℕ
 value_text var value = if value then decimal var else 45 ∷ decimal var
 
--- the variables from 1 on with these values, each with a space behind it
+-- the literals of the variables from 1 on with these values, each with a space after it
 abbrev pub values_text : List Bool → List ℕ
 values_text values = before_spaces (map (λ p. value_text p.0 p.1) (enumerate_from 1 values))
 
--- the lines that print what a search found
+-- the text of what a search found
 abbrev pub found_text : Found → List ℕ
 found_text (Model values) = codes "s SATISFIABLE\nv " ++ values_text values ++ codes "0\n"
 found_text Refuted = codes "s UNSATISFIABLE\n"
@@ -72,9 +72,10 @@ pub record IsModel (formula : Formula) (values : List Bool) : Type 0 where
   pub one_each : length values ≡ formula.vars
   pub satisfies : Satisfies (value_at values) formula
 
--- What was found is so: the values are a model, and the log is clean, so that each clause that it
--- adds is new and none is empty; or the log adds the empty clause, and no assignment satisfies the
--- formula; or the log is spent at the limit, so that it is clean and adds just as many clauses.
+-- The result of a search is right: the values are a model, and the log is clean, so that each
+-- clause that it adds is new and none is empty; or the log adds the empty clause, and no assignment
+-- satisfies the formula; or the log is spent at the limit, so that it is clean and adds exactly
+-- that many clauses.
 abbrev pub IsSearchResult : Formula → ℕ → Log → Found → Type 0
 IsSearchResult formula limit log (Model values) =
     IsModel formula values × IsClean formula None [] log.steps
@@ -111,7 +112,7 @@ pub record IsSatisfiable (words : SolveWords) (files : Files) : Type 0 where
   pub assignment : ℕ → Bool
   pub satisfies : Satisfies assignment formula
 
--- it is held, and no assignment satisfies it
+-- the formula is held, and no assignment satisfies it
 pub record IsUnsatisfiable (words : SolveWords) (files : Files) : Type 0 where
   pub held : solve_refusal words files ≡ None
   pub formula : Formula
@@ -124,8 +125,8 @@ pub record IsSolveRefused (words : SolveWords) (files : Files) : Type 0 where
   pub refused : solve_refusal words files ≡ Some refusal
 
 -- the formula is held, and so is the text of a log that is spent for it: the log is accepted, adds
--- just as many clauses as the words allow, and each of them is new and none empty. Such a log is
--- too short for a formula of few variables.
+-- exactly as many clauses as the words allow, and each of them is new and none empty. A formula of
+-- V variables, V at most 6, has such a log only for limits below 3^V.
 pub record HoldsSpentProof (words : SolveWords) (files : Files) : Type 0 where
   pub formula : Formula
   pub formula_is : reading (bytes_at files words.formula) ≡ Ok formula
@@ -161,8 +162,8 @@ pub record TellsSolution (words : SolveWords) (status : ℕ) (before after : Fil
   pub two_or_three : IsUnsatisfiable words before → (status ≡ 2) ⊎ (status ≡ 3)
   pub nothing_else : (status ≡ 0) ⊎ ((status ≡ 2) ⊎ ((status ≡ 3) ⊎ (status ≡ 5)))
 
--- the log that `solve` wrote where no assignment satisfies the formula is a proof of that which
--- `lrat` accepts
+-- if no assignment satisfies the formula, the log that `solve` wrote is a proof of that, and `lrat`
+-- accepts it
 abbrev pub SolvedIsRefuted : Type 0
 SolvedIsRefuted =
     (words : SolveWords) (files : Files) (done : Done) → IsSolved words files done →

@@ -57,7 +57,8 @@ pub fn read_formula<S: Store>(alloc: Global, cnf: &Name, store: &mut S) -> Resul
     }
 }
 
-/// Reads the formula right into a checker that knows it, or refuses it. There are no prices.
+/// Reads the formula straight into a checker that knows it, or refuses it. The checker has no
+/// bounds on a price.
 pub fn read_checker<S: Store>(alloc: Global, cnf: &Name, store: &mut S) -> Result<Checker, Stop>
     ensures told { IfSome (S.held store.old) (λ files. MakesChecker cnf.now files result) }
     ensures reads { OnlyReads least_limit S.held S.faults S.absences S.taken

@@ -24,7 +24,7 @@ fn rejection_kind(rejection: Rejection) -> CertKind
     }
 }
 
-/// The judgement that an outcome is.
+/// The judgement that `lrat` prints for an outcome.
 fn judgement_of(outcome: Outcome) -> Judgement
     ensures { result ≡ judgement_of outcome }
 {
@@ -34,8 +34,8 @@ fn judgement_of(outcome: Outcome) -> Judgement
     }
 }
 
-/// Judges whether a proof shows that no assignment satisfies the formula. The formula is read right
-/// into the checker, and the proof twice: for its size, and line by line for its steps.
+/// Judges whether a proof shows that no assignment satisfies the formula. The formula is read
+/// straight into the checker, and the proof twice: for its size, and line by line for its steps.
 pub fn lrat<S: Store>(alloc: Global, cnf: &Name, proof: &Name, store: &mut S) -> Result<Done, Stop>
     ensures answer { Answers IsJudging (IsLratRefusal cnf.now proof.now)
         (IsJudged cnf.now proof.now) (S.held store.old) result }

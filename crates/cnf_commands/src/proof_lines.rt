@@ -1,4 +1,4 @@
-//! The judgement of a proof whose lines are read one by one.
+//! Judging a proof line by line.
 ghost use Rattle.cnf_commands.specs.ProofLines.{JudgesProof};
 ghost use Rattle.proof_check.specs.Outcomes.{log_outcome};
 ghost use Rattle.proof_check.specs.View.{known};
@@ -12,7 +12,7 @@ use run_files::{LineJudge, Stop, judge_lines};
 use std::alloc::Global;
 use std::ops::ControlFlow;
 
-/// What is left to say after the last line.
+/// The outcome after the last line.
 fn last_word(checker: &Checker, number: u64) -> Outcome
     ensures { result ≡ log_outcome (known checker.now) number [] }
 {
@@ -23,7 +23,8 @@ fn last_word(checker: &Checker, number: u64) -> Outcome
     }
 }
 
-/// The judge of a proof: the checker that took the steps so far, and the number of the next line.
+/// The judge of a proof: a checker that has taken the steps so far, and the number of the next
+/// line.
 #[derive(Drop)]
 struct ProofJudge {
     checker: Checker,
@@ -63,7 +64,7 @@ impl LineJudge for ProofJudge {
     }
 }
 
-/// Judges the lines of a proof one by one by a checker, or refuses its file.
+/// Judges the lines of a proof one by one with a checker, or refuses its file.
 pub fn judge_proof<S: Store>(
     alloc: Global,
     store: &mut S,

@@ -22,7 +22,7 @@ use sat_search::{Found, core_of, search_first};
 use std::alloc::Global;
 use std::fmt::Write;
 
-/// What a search over the formula finds, and the log of its clauses.
+/// The result of a search over the formula, and its log.
 fn search_formula<L: Listener>(
     alloc: Global,
     formula: &Formula,
@@ -81,7 +81,8 @@ fn push_values(text: &mut String, values: &[bool]) -> Result<(), Memory>
     Ok(())
 }
 
-/// The lines that print an assignment.
+/// The lines of a model: `s SATISFIABLE`, and after `v` its literals and 0, as SAT solvers print
+/// them.
 fn model_text(alloc: Global, values: &[bool]) -> Result<Vec<u8>, Memory>
     ensures { IfOk result (λ text. text.items ≡ found_text (Found.Model values.now)) }
 {
@@ -91,7 +92,7 @@ fn model_text(alloc: Global, values: &[bool]) -> Result<Vec<u8>, Memory>
     Ok(text.into_bytes())
 }
 
-/// The lines that print what was found.
+/// The lines of a result, as SAT solvers print it.
 fn found_text(alloc: Global, found: &Found) -> Result<Vec<u8>, Memory>
     ensures { IfOk result (λ text. text.items ≡ found_text found.now) }
 {

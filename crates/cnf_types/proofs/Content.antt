@@ -15,15 +15,18 @@ pub content_line : (n : ℕ) (line : List ℕ) (ls : List (List ℕ)) → is_com
 content_line n line ls e = rw e refl
 
 -- a line whose words are numbers goes before the first bad line
-pub bad_later : (vars n : ℕ) (line bytes : List ℕ) (ls rest : List (List ℕ)) → rest ≡ line ∷ ls → is_comment line ≡ false → bytes ≡ without_return line → IsFalse (list_any (is_bad vars) (words bytes)) → first_bad vars (content (n + 1) ls) ≡ first_bad vars (content n rest)
+pub bad_later : (vars n : ℕ) (line bytes : List ℕ) (ls rest : List (List ℕ)) → rest ≡ line ∷ ls → is_comment line ≡ false → bytes ≡ without_return line →
+    IsFalse (list_any (is_bad vars) (words bytes)) → first_bad vars (content (n + 1) ls) ≡ first_bad vars (content n rest)
 bad_later vars n line bytes ls rest rest_is off bytes_is good =
     let fine : list_any (is_bad vars) (line_words line) ≡ false = rw bytes_is at good in
     sym (ap (λ r. first_bad vars (content n r)) rest_is ∙ ap (first_bad vars) (content_line n line ls off) ∙ ap (λ b. cond b (Some (n + 1, line)) (first_bad vars (content (n + 1) ls))) fine)
 
 -- its numbers come before those of the lines that follow
-pub numbers_line : (vars n : ℕ) (line bytes : List ℕ) (ls rest : List (List ℕ)) (more : List ℤ) → rest ≡ line ∷ ls → is_comment line ≡ false → bytes ≡ without_return line → line_numbers vars (words bytes) ++ (numbers vars (content (n + 1) ls) ++ more) ≡ numbers vars (content n rest) ++ more
+pub numbers_line : (vars n : ℕ) (line bytes : List ℕ) (ls rest : List (List ℕ)) (more : List ℤ) → rest ≡ line ∷ ls → is_comment line ≡ false →
+    bytes ≡ without_return line → line_numbers vars (words bytes) ++ (numbers vars (content (n + 1) ls) ++ more) ≡ numbers vars (content n rest) ++ more
 numbers_line vars n line bytes ls rest more rest_is off bytes_is =
-    ap (λ b. line_numbers vars (words b) ++ (numbers vars (content (n + 1) ls) ++ more)) bytes_is ∙ sym (ap (λ r. numbers vars (content n r) ++ more) rest_is ∙ ap (λ c. numbers vars c ++ more) (content_line n line ls off) ∙ append_assoc (line_numbers vars (line_words line)) (numbers vars (content (n + 1) ls)) more)
+    ap (λ b. line_numbers vars (words b) ++ (numbers vars (content (n + 1) ls) ++ more)) bytes_is ∙ sym (ap (λ r. numbers vars (content n r) ++ more)
+    rest_is ∙ ap (λ c. numbers vars c ++ more) (content_line n line ls off) ∙ append_assoc (line_numbers vars (line_words line)) (numbers vars (content (n + 1) ls)) more)
 
 -- no clause yet
 pub pieces_at_first : (clauses : List Clause) (front : List Lit) (more : List ℤ) → clauses ≡ [] → front ≡ [] → pieces_after clauses front more ≡ pieces more
@@ -34,6 +37,8 @@ pub good_word : (vars : ℕ) (word : List ℕ) (ws all : List (List ℕ)) → al
 good_word vars word ws all all_is good = sym (ap (list_any (is_bad vars)) all_is ∙ ap (λ b. b || list_any (is_bad vars) ws) good)
 
 -- and so does its number
-pub numbers_word : (vars : ℕ) (word : List ℕ) (ws all : List (List ℕ)) (more : List ℤ) → all ≡ word ∷ ws → line_numbers vars (word ∷ []) ++ (line_numbers vars ws ++ more) ≡ line_numbers vars all ++ more
+pub numbers_word : (vars : ℕ) (word : List ℕ) (ws all : List (List ℕ)) (more : List ℤ) → all ≡ word ∷ ws →
+    line_numbers vars (word ∷ []) ++ (line_numbers vars ws ++ more) ≡ line_numbers vars all ++ more
 numbers_word vars word ws all more all_is =
-    sym (ap (λ r. line_numbers vars r ++ more) all_is ∙ ap (λ zs. zs ++ more) (filter_map-append (number vars) (word ∷ []) ws) ∙ append_assoc (line_numbers vars (word ∷ [])) (line_numbers vars ws) more)
+    sym (ap (λ r. line_numbers vars r ++ more) all_is ∙ ap (λ zs. zs ++ more) (filter_map-append (number vars) (word ∷ []) ws) ∙ append_assoc
+    (line_numbers vars (word ∷ [])) (line_numbers vars ws) more)

@@ -11,7 +11,8 @@ onto_nothing_first : (z : ℤ) (ps : List (List ℤ)) → onto [] (map (map lite
 onto_nothing_first z [] = refl
 onto_nothing_first z (p ∷ ps) = refl
 
-onto_nothing_step : (b : Bool) (z : ℤ) (ps : List (List ℤ)) → onto [] (map (map literal_of) (Rattle.std.specs.Prelude.cond b ([] ∷ ps) (onto_first z ps))) ≡ map (map literal_of) (Rattle.std.specs.Prelude.cond b ([] ∷ ps) (onto_first z ps))
+onto_nothing_step : (b : Bool) (z : ℤ) (ps : List (List ℤ)) →
+    onto [] (map (map literal_of) (Rattle.std.specs.Prelude.cond b ([] ∷ ps) (onto_first z ps))) ≡ map (map literal_of) (Rattle.std.specs.Prelude.cond b ([] ∷ ps) (onto_first z ps))
 onto_nothing_step true z ps = refl
 onto_nothing_step false z ps = onto_nothing_first z ps
 
@@ -23,8 +24,11 @@ onto_nothing (z ∷ more) = onto_nothing_step (is_zero z) z (slice_split is_zero
 -- a zero closes the clause
 pub closing : (clauses : List Clause) (front : List Lit) (more : List ℤ) → pieces_after (clauses ++ record { lits = front } ∷ []) [] more ≡ pieces_after clauses front (pos 0 ∷ more)
 closing clauses front more =
-    let one : map (λ (c : Clause). c.lits) (clauses ++ record { lits = front } ∷ []) ≡ map (λ (c : Clause). c.lits) clauses ++ front ∷ [] = map_push (λ (c : Clause). c.lits) clauses (record { lits = front }) in
-    ap (λ ls. ls ++ onto [] (pieces more)) one ∙ append_assoc (map (λ (c : Clause). c.lits) clauses) (front ∷ []) (onto [] (pieces more)) ∙ ap (λ ps. map (λ (c : Clause). c.lits) clauses ++ front ∷ ps) (onto_nothing more) ∙ ap (λ f. map (λ (c : Clause). c.lits) clauses ++ f ∷ pieces more) (sym (append-nil front))
+    let one : map (λ (c : Clause). c.lits) (clauses ++ record { lits = front } ∷ []) ≡ map (λ (c : Clause). c.lits) clauses ++ front ∷ [] =
+    map_push (λ (c : Clause). c.lits) clauses (record { lits = front }) in
+    ap (λ ls. ls ++ onto [] (pieces more)) one ∙ append_assoc (map (λ (c : Clause). c.lits) clauses) (front ∷ []) (onto [] (pieces more))
+    ∙ ap (λ ps. map (λ (c : Clause). c.lits) clauses ++ front ∷ ps) (onto_nothing more) ∙ ap (λ f. map (λ (c : Clause). c.lits) clauses ++ f ∷ pieces more) (sym (append-nil front))
 
-pub closing_is : (clauses after : List Clause) (front lits rest : List Lit) (z : ℤ) (more : List ℤ) → after ≡ clauses ++ record { lits = lits } ∷ [] → lits ≡ front → rest ≡ [] → z ≡ pos 0 → pieces_after after rest more ≡ pieces_after clauses front (z ∷ more)
+pub closing_is : (clauses after : List Clause) (front lits rest : List Lit) (z : ℤ) (more : List ℤ) → after ≡ clauses ++ record { lits = lits } ∷ [] →
+    lits ≡ front → rest ≡ [] → z ≡ pos 0 → pieces_after after rest more ≡ pieces_after clauses front (z ∷ more)
 closing_is clauses after front lits rest z more after_is lits_is rest_is z_is = rw (after_is, lits_is, rest_is, z_is) (closing clauses front more)

@@ -1,13 +1,13 @@
 //! The clauses of a DIMACS text, word by word and line by line.
-ghost use Rattle.std.specs.Prelude.{◌≡◌, ◌+◌, ◌-◌, ◌<◌, ◌≤◌, ◌^◌, ◌++◌, [], ◌∷◌, ℕ, ℤ};
-ghost use Rattle.std.specs.Prelude.{List as Items, length, IsFalse, IsTrue, IfOk, IfErr, IsSomeAnd};
-ghost use Rattle.std.specs.Prelude.{IsErrOf, OnOk, None, unsigned_abs};
-ghost use Rattle.std.specs.List.{list_any};
 ghost use Rattle.arc_base.specs.TextLines.{lines};
-ghost use Rattle.arc_base.specs.Words.{words};
 ghost use Rattle.arc_base.specs.WordNumbers.{number};
+ghost use Rattle.arc_base.specs.Words.{words};
 ghost use Rattle.cnf_types.specs.Dimacs.{is_bad, line_numbers, first_bad, content, numbers, pieces};
 ghost use Rattle.cnf_types.specs.Progress.{pieces_after, IsFirstBad};
+ghost use Rattle.std.specs.List.{list_any};
+ghost use Rattle.std.specs.Prelude.{◌≡◌, ◌+◌, ◌-◌, ◌<◌, ◌≤◌, ◌^◌, ◌++◌, [], ◌∷◌, ℤ, List as Items};
+ghost use Rattle.std.specs.Prelude.{length, IsFalse, IsTrue, IfOk, IfErr, IsErrOf, OnOk, None};
+ghost use Rattle.std.specs.Prelude.{unsigned_abs};
 
 use crate::faults::CnfFault;
 use crate::header::is_comment;

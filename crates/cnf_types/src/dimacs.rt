@@ -1,10 +1,10 @@
 //! Formulas from the text of a DIMACS file.
-ghost use Rattle.std.specs.Prelude.{◌≡◌, ◌+◌, ◌<◌, ◌≤◌, ◌^◌, [], length, IfOk, IfErr, Err, Ok};
-ghost use Rattle.std.specs.Prelude.{IsTrue, ◌↔◌};
 ghost use Rattle.arc_base.specs.TextLines.{lines};
 ghost use Rattle.cnf_types.specs.Dimacs.{content, from_header, after_header, counted, reading};
 ghost use Rattle.cnf_types.specs.Dimacs.{IsFaultOf};
 ghost use Rattle.cnf_types.specs.Progress.{pieces_after};
+ghost use Rattle.std.specs.Prelude.{◌≡◌, ◌+◌, ◌<◌, ◌≤◌, ◌^◌, [], length, IfOk, IfErr, Err, Ok};
+ghost use Rattle.std.specs.Prelude.{IsTrue, ◌↔◌};
 
 use crate::body::{Body, read_lines};
 use crate::clauses::Formula;

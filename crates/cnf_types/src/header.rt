@@ -1,9 +1,7 @@
 //! The header of a DIMACS text.
-ghost use Rattle.std.specs.Prelude.{◌≡◌, ◌+◌, ◌<◌, ◌≤◌, ◌^◌, ℕ, [], ◌∷◌, length, IfOk, IfErr, Some};
-ghost use Rattle.std.specs.Prelude.{None};
-ghost use Rattle.arc_base.specs.TextLines.{lines};
 ghost use Rattle.arc_base.specs.Words.{words};
-ghost use Rattle.cnf_types.specs.Dimacs.{count, header, content, is_comment, line_words};
+ghost use Rattle.cnf_types.specs.Dimacs.{count, header, is_comment};
+ghost use Rattle.std.specs.Prelude.{◌≡◌, ◌<◌, [], Some, None};
 
 use arc_base::{natural, next_word};
 

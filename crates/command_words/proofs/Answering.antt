@@ -90,7 +90,8 @@ none_in : (word : Text) (table : List Form) → find (is_called word) table ≡ 
 none_in word [] is = refl
 none_in word (f ∷ fs) is = go (bytes_eq f.name word) refl (none_in word fs) is
   where
-    go : (t : Bool) → bytes_eq f.name word ≡ t → (find (is_called word) fs ≡ None → find (answers_to word) (map form_label fs) ≡ None) → (if t then Some f else find (is_called word) fs) ≡ None → find (answers_to word) (map form_label (f ∷ fs)) ≡ None
+    go : (t : Bool) → bytes_eq f.name word ≡ t → (find (is_called word) fs ≡ None → find (answers_to word) (map form_label fs) ≡ None) →
+        (if t then Some f else find (is_called word) fs) ≡ None → find (answers_to word) (map form_label (f ∷ fs)) ≡ None
     go true e rest is = absurd (cc)
     go false e rest is = rw e (rest is)
 

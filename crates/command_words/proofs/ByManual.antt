@@ -1,8 +1,10 @@
 -- The function of the words and the manual page say the same.
-use Rattle.std.proofs.Common.{◌≡◌, ◌∙◌, ◌↔◌, inl, inr, ℕ, suc, ◌+◌, ◌==◌, ◌||◌, Bool, true, false, List, [], ◌∷◌, ◌++◌, map, take, drop, Option, Some, None, refl, sym, ap, ap₂, subst, if◌then◌else◌, codes, one-add, arith}
+use Rattle.std.proofs.Common.{◌≡◌, ◌∙◌, ◌↔◌, inl, inr, ℕ, suc, ◌+◌, ◌==◌, ◌||◌, Bool, true, false, List, [], ◌∷◌}
+use Rattle.std.proofs.Common.{◌++◌, map, take, drop, Option, Some, None, refl, sym, ap, ap₂, subst, if◌then◌else◌, codes, one-add, arith}
 use Rattle.std.specs.List.{list_any, after_first, position_or_len}
 use Rattle.std.proofs.lemmas.Bool.{eqb-true, eqb-false}
-use Rattle.command_words.specs.Words.{Form, Given, after_one, after_two, plain, hyphened, end, long, form_of, given_by, name_in, names_one, option, option_gives, positional, then_more, value_gives, value_in, word_gives}
+use Rattle.command_words.specs.Words.{Form, Given, after_one, after_two, plain, hyphened, end, long, form_of}
+use Rattle.command_words.specs.Words.{given_by, name_in, names_one, option, option_gives, positional, then_more, value_gives, value_in, word_gives}
 use Rattle.command_words.specs.Manual.{Gives, IsText, after, apart, beside, has_equals, no_words, stands}
 
 -- ---- a name before `=`

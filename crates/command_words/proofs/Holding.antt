@@ -1,5 +1,7 @@
 -- The rows hold what the words give: each positional word in its place, and each option's value.
-use Rattle.std.proofs.Common.{◌≡◌, ◌∙◌, ◌⊎◌, inl, inr, ℕ, zero, suc, ◌<◌, ◌≤◌, ◌&&◌, ◌||◌, Bool, true, false, not, List, [], ◌∷◌, ◌++◌, map, append_assoc, append-nil, length, Option, Some, None, refl, sym, ap, ap₂, subst, slice_get, cond, if◌then◌else◌, option_and_then, arith, is_some, find, length-append}
+use Rattle.std.proofs.Common.{◌≡◌, ◌∙◌, ◌⊎◌, inl, inr, ℕ, zero, suc, ◌<◌, ◌≤◌, ◌&&◌, ◌||◌, Bool, true, false, not, List, [], ◌∷◌, ◌++◌}
+use Rattle.std.proofs.Common.{map, append_assoc, append-nil, length, Option, Some, None, refl, sym, ap, ap₂, subst, slice_get, cond, if◌then◌else◌, option_and_then, arith, is_some, find}
+use Rattle.std.proofs.Common.{length-append}
 use Rattle.std.specs.List.{list_any}
 use Rattle.std.specs.Option.{option_map_or}
 use Rattle.std.specs.Str.{bytes_eq}
@@ -8,7 +10,8 @@ use Rattle.std.proofs.lemmas.Slice.Eq.{bytes_eq-Decides}
 use Rattle.clap.specs.Facts.{explicit_source}
 use Rattle.clap.specs.Walk.{Row, Rule, Text, arg_by_id, first_of, has_row}
 use Rattle.clap.specs.Takes.{is_given}
-use Rattle.command_words.specs.Words.{Form, Given, plain, hyphened, end, long, form_of, given_by, is_once, name_in, names_one, option, option_gives, positional, positionals, then_more, value_gives, value_in, value_of, word_gives}
+use Rattle.command_words.specs.Words.{Form, Given, plain, hyphened, end, long, form_of, given_by, is_once, name_in}
+use Rattle.command_words.specs.Words.{names_one, option, option_gives, positional, positionals, then_more, value_gives, value_in, value_of, word_gives}
 use Rattle.command_words.proofs.Rules.{Reads, added, option_rule, place_rule, row_of}
 use Rattle.command_words.proofs.WalkStates.{absorb, within}
 
@@ -346,7 +349,8 @@ module _ (c : List Rule) (ids options needed : List Text) (r : Reads c ids optio
           has_first id rows h.ones ∙ ap (λ (o : Option Text). is_some o) (h.places (length (positionals past)) id at ∙ get_past (positionals past) (length (positionals past)) (omega arith)) in
           let room : length (positionals (past ++ positional word ∷ [])) ≤ length ids = rw count (omega (arith, within ids (length (positionals past)) id at)) in
           let whole = later (past ++ positional word ∷ []) (rows ++ row_of id word ∷ []) known (push_place rows past id word h at) (once_push_place past word ∙ once) room in
-          let all = subst (λ (xs : List Given). Absorbed xs (absorb ids (length (positionals (past ++ positional word ∷ []))) rest (rows ++ row_of id word ∷ []))) (append_assoc past (positional word ∷ []) rest) whole in
+          let all = subst (λ (xs : List Given). Absorbed xs (absorb ids (length (positionals (past ++ positional word ∷ []))) rest (rows ++ row_of id word ∷ [])))
+          (append_assoc past (positional word ∷ []) rest) whole in
           let here = subst (λ (n : ℕ). Absorbed (past ++ positional word ∷ rest) (absorb ids n rest (rows ++ row_of id word ∷ []))) count all in
           rw absent here
   absorbs (option name word ∷ rest) past rows known h once few = go (value_of name past) refl (absorbs rest)
@@ -363,7 +367,8 @@ module _ (c : List Rule) (ids options needed : List Text) (r : Reads c ids optio
           let absent : has_row name rows ≡ false = has_first name rows h.ones ∙ ap (λ (o : Option Text). is_some o) (h.named name known.0 ∙ none) in
           let room : length (positionals (past ++ option name word ∷ [])) ≤ length ids = rw places few in
           let whole = later (past ++ option name word ∷ []) (rows ++ row_of name word ∷ []) known.1 (push_option rows past name word h known.0 none) (once_push past name word none once) room in
-          let all = subst (λ (xs : List Given). Absorbed xs (absorb ids (length (positionals (past ++ option name word ∷ []))) rest (rows ++ row_of name word ∷ []))) (append_assoc past (option name word ∷ []) rest) whole in
+          let all = subst (λ (xs : List Given). Absorbed xs (absorb ids (length (positionals (past ++ option name word ∷ []))) rest (rows ++ row_of name word ∷ [])))
+          (append_assoc past (option name word ∷ []) rest) whole in
           let here = subst (λ (ws : List Text). Absorbed (past ++ option name word ∷ rest) (absorb ids (length ws) rest (rows ++ row_of name word ∷ []))) places all in
           rw absent here
 

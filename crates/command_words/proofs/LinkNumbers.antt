@@ -55,7 +55,8 @@ uncut (b ∷ bytes) none = go (comma b) refl (uncut bytes)
     go : (t : Bool) → comma b ≡ t → ((position_or_len comma bytes < length bytes → ⊥) → words_of bytes ≡ bytes ∷ []) → words_of (b ∷ bytes) ≡ (b ∷ bytes) ∷ []
     go true h rest = absurd (none (subst (λ (t : Bool). cond (not t) (1 + position_or_len comma bytes) 0 < suc (length bytes)) (sym h) (omega arith)))
     go false h rest =
-        let later : position_or_len comma bytes < length bytes → ⊥ = λ below. none (subst (λ (t : Bool). cond (not t) (1 + position_or_len comma bytes) 0 < suc (length bytes)) (sym h) (omega (arith, below))) in
+        let later : position_or_len comma bytes < length bytes → ⊥ =
+        λ below. none (subst (λ (t : Bool). cond (not t) (1 + position_or_len comma bytes) 0 < suc (length bytes)) (sym h) (omega (arith, below))) in
         slice_split-cons_no comma b bytes h ∙ ap (onto_first b) (rest later)
 
 -- a text without a comma is one word
@@ -71,7 +72,8 @@ none_before None = refl
 none_before (Some numbers) = refl
 
 -- one more word has a number
-pub number_more : (text word rest : List ℕ) (numbers : List ℕ) (number : ℕ) → words_of text ≡ word ∷ words_of rest → link_number word ≡ Some number → following numbers (link_numbers text) ≡ following (numbers ++ number ∷ []) (link_numbers rest)
+pub number_more : (text word rest : List ℕ) (numbers : List ℕ) (number : ℕ) → words_of text ≡ word ∷ words_of rest → link_number word ≡ Some number →
+    following numbers (link_numbers text) ≡ following (numbers ++ number ∷ []) (link_numbers rest)
 number_more text word rest numbers number cut is = ap (λ (ws : List (List ℕ)). following numbers (all_numbers ws)) cut ∙ rw is (go (link_numbers rest))
   where
     go : (o : Option (List ℕ)) → following numbers (option_and_then (λ more. Some (number ∷ more)) o) ≡ following (numbers ++ number ∷ []) o

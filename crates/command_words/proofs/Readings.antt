@@ -1,5 +1,6 @@
 -- The rules of a command are of its positional words and options.
-use Rattle.std.proofs.Common.{◌≡◌, ◌∙◌, ◌&&◌, not, ℕ, zero, suc, ◌+◌, ◌≤◌, ◌==◌, ◌||◌, Bool, true, false, List, [], ◌∷◌, ◌++◌, map, length, Some, None, refl, sym, ap, subst, slice_get, cond, if◌then◌else◌, arith, fold, find, option_map, is_some}
+use Rattle.std.proofs.Common.{◌≡◌, ◌∙◌, ◌&&◌, not, ℕ, zero, suc, ◌+◌, ◌≤◌, ◌==◌, ◌||◌, Bool, true, false, List, [], ◌∷◌}
+use Rattle.std.proofs.Common.{◌++◌, map, length, Some, None, refl, sym, ap, subst, slice_get, cond, if◌then◌else◌, arith, fold, find, option_map, is_some}
 use Rattle.std.specs.List.{list_all, list_any}
 use Rattle.std.specs.Option.{option_map_or}
 use Rattle.std.specs.Str.{bytes_eq}
@@ -333,11 +334,13 @@ module _ (ids needed optional : List Text) (apart : are_apart (ids ++ (needed ++
     by_letter = λ letter. no_letter_at_places 1 ids options letter
         ∙ (no_letter true needed (map (option_rule false) optional) letter
         ∙ (ap (find (lettered_so letter)) (sym (append_none (map (option_rule false) optional))) ∙ no_letter false optional [] letter));
-    of_place = λ k id at. subst (λ (n : ℕ). arg_by_id (rules_of ids needed optional) id ≡ Some (place_rule n id)) (next k) (of_place 1 k ids options id (front_apart ids (needed ++ optional) apart) at);
+    of_place = λ k id at. subst (λ (n : ℕ). arg_by_id (rules_of ids needed optional) id ≡ Some (place_rule n id)) (next k)
+        (of_place 1 k ids options id (front_apart ids (needed ++ optional) apart) at);
     of_option = λ name known. past_ids 1 ids options name (none_of_ids ids (needed ++ optional) name apart known) ∙ options_by_id needed optional name known;
     are_options = is_option needed optional;
     wanted = λ rows. wanted_places 1 ids options rows
-        ∙ (ap (λ (b : Bool). list_any (lacks rows) ids || b) (wanted_needed needed (map (option_rule false) optional) rows ∙ ap (λ (b : Bool). list_any (lacks rows) needed || b) (wanted_optional optional rows))
+        ∙ (ap (λ (b : Bool). list_any (lacks rows) ids || b) (wanted_needed needed (map (option_rule false) optional) rows
+        ∙ ap (λ (b : Bool). list_any (lacks rows) needed || b) (wanted_optional optional rows))
         ∙ turned (list_any (lacks rows) ids) (list_any (lacks rows) needed));
     no_default = λ rows. no_defaults (rules_of ids needed optional) rows all_bare;
     no_default_fault = λ rows. no_faults (rules_of ids needed optional) rows all_bare;

@@ -1,5 +1,6 @@
 -- What the walk over the words needs to know of a command's arguments, once `clap` has built them.
-use Rattle.std.proofs.Common.{◌≡◌, ◌∙◌, ℕ, suc, ◌≤◌, ◌&&◌, ◌||◌, Bool, true, false, not, List, [], ◌∷◌, ◌++◌, append-nil, length, Option, Some, None, refl, ap, slice_get, if◌then◌else◌, option_map, fold}
+use Rattle.std.proofs.Common.{◌≡◌, ◌∙◌, ℕ, suc, ◌≤◌, ◌&&◌, ◌||◌, Bool, true, false, not, List, []}
+use Rattle.std.proofs.Common.{◌∷◌, ◌++◌, append-nil, length, Option, Some, None, refl, ap, slice_get, if◌then◌else◌, option_map, fold}
 use Rattle.std.specs.List.{list_any}
 use Rattle.std.specs.Str.{bytes_eq}
 use Rattle.clap.specs.Walk.{Row, Rule, Text, arg_by_id, arg_by_index, arg_by_long, arg_by_short, at_row, has_row, more_values, used, with_values, without, with_default}

@@ -69,9 +69,11 @@ both bound conflicts within few = (within.1, few)
 kind_limited : (kind : CommandKind) (value : Look) → Limited (command_by kind value)
 kind_limited kinds.Verify value = next (value (codes "DOC")) _ (λ document. tt)
 kind_limited kinds.Trace value =
-    next (value (codes "DOC")) _ (λ document. next (option_and_then prefix_of (value (codes "FROM"))) _ (λ from. next (option_and_then prefix_of (value (codes "TO"))) _ (λ to. next (links_or_none (value (codes "down"))) _ (λ down. tt))))
+    next (value (codes "DOC")) _ (λ document. next (option_and_then prefix_of (value (codes "FROM"))) _
+    (λ from. next (option_and_then prefix_of (value (codes "TO"))) _ (λ to. next (links_or_none (value (codes "down"))) _ (λ down. tt))))
 kind_limited kinds.Repair value =
-    next (value (codes "DOC")) _ (λ document. next (value (codes "out")) _ (λ suffix. next (value (codes "proof")) _ (λ proof. with_usual 32 0 512 (value (codes "max-price")) _ usual_price (λ bound within.
+    next (value (codes "DOC")) _ (λ document. next (value (codes "out")) _
+    (λ suffix. next (value (codes "proof")) _ (λ proof. with_usual 32 0 512 (value (codes "max-price")) _ usual_price (λ bound within.
     with_usual 50000 1 200000 (value (codes "conflicts")) _ usual_conflicts (λ conflicts few. both bound conflicts within few)))))
 kind_limited kinds.Check value = next (value (codes "DOC")) _ (λ document. next (value (codes "CERT")) _ (λ certificate. tt))
 kind_limited kinds.Apply value = next (value (codes "DOC")) _ (λ document. next (value (codes "EDITS")) _ (λ edits. next (value (codes "out")) _ (λ suffix. tt)))
@@ -80,9 +82,11 @@ kind_limited kinds.Solve value =
 kind_limited kinds.Lrat value = next (value (codes "CNF")) _ (λ formula. next (value (codes "PROOF")) _ (λ proof. tt))
 kind_limited kinds.Generate value = with_number 6 40 (value (codes "N")) _ (λ number within. next (value (codes "proof")) _ (λ proof. within))
 kind_limited kinds.Nodes value =
-    next (value (codes "DOC")) _ (λ document. next (option_and_then prefix_of (value (codes "FROM"))) _ (λ from. next (option_and_then prefix_of (value (codes "TO"))) _ (λ to. with_number 0 16 (value (codes "K")) _ (λ failures within. within.1))))
+    next (value (codes "DOC")) _ (λ document. next (option_and_then prefix_of (value (codes "FROM"))) _
+    (λ from. next (option_and_then prefix_of (value (codes "TO"))) _ (λ to. with_number 0 16 (value (codes "K")) _ (λ failures within. within.1))))
 kind_limited kinds.Prefers value =
-    next (value (codes "DOC")) _ (λ document. next (option_and_then prefix_of (value (codes "FROM"))) _ (λ from. next (option_and_then prefix_of (value (codes "TO"))) _ (λ to. next (option_and_then router_names (value (codes "ROUTERS"))) _ (λ routers. tt))))
+    next (value (codes "DOC")) _ (λ document. next (option_and_then prefix_of (value (codes "FROM"))) _
+    (λ from. next (option_and_then prefix_of (value (codes "TO"))) _ (λ to. next (option_and_then router_names (value (codes "ROUTERS"))) _ (λ routers. tt))))
 kind_limited kinds.Recheck value = next (value (codes "DOC")) _ (λ document. next (value (codes "REPORT")) _ (λ report. tt))
 
 -- ---- the whole line

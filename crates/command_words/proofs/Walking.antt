@@ -15,7 +15,8 @@ use Rattle.clap.specs.declared.error.kind.ErrorKind.TheVariants.{UnknownArgument
 use Rattle.command_words.specs.Words.{Form, Given, given_by, name_in, names_one, option, option_gives, positional, then_more, value_gives, value_in, word_gives}
 use Rattle.command_words.proofs.Hyphens.{IsPlain, IsHyphened, IsEnd, IsLong, View, first_letter, seen_plain, seen_hyphened, seen_end, seen_long, view_of}
 use Rattle.command_words.proofs.Rules.{Judged, Reads, added, both_empty, first_empty, option_rule, place_rule, second_empty, some_kind, use_judged}
-use Rattle.command_words.proofs.WalkStates.{and_then_some, as_outcome, Fine, flat, held_by, IsJudged, leaf, no_command, no_more, nothing, one, option_outcome, or_false, outcome, Pending, positional_outcome, refused_word, settle_judged, settles, Settles, Settling, settling, state, sticks, stray_outcome, taken_word, within}
+use Rattle.command_words.proofs.WalkStates.{and_then_some, as_outcome, Fine, flat, held_by, IsJudged, leaf, no_command, no_more, nothing, one, option_outcome, or_false}
+use Rattle.command_words.proofs.WalkStates.{outcome, Pending, positional_outcome, refused_word, settle_judged, settles, Settles, Settling, settling, state, sticks, stray_outcome, taken_word, within}
 
 module _ (title : Text) (c : List Rule) (ids options needed : List Text) (r : Reads c ids options needed) where
   abbrev shape : Shape
@@ -30,7 +31,8 @@ module _ (title : Text) (c : List Rule) (ids options needed : List Text) (r : Re
   place_fault k id rows p = ap (λ (b : Bool). cond b [] (settle_fault c false (held_by rows p))) (and_right (is_pending (place_rule (suc k) id) p) (takes_several (place_rule (suc k) id)) refl)
 
   place_held : (k : ℕ) (id word : Text) (rows : List Row) (p : Pending) → positional_held c (place_rule (suc k) id) word (held_by rows p) ≡ held_by (settled_rows c p rows) (Some (id, word ∷ []))
-  place_held k id word rows p = ap (λ (b : Bool). pushed id word (cond b (held_by rows p) (settled c (held_by rows p)))) (and_right (is_pending (place_rule (suc k) id) p) (takes_several (place_rule (suc k) id)) refl)
+  place_held k id word rows p = ap (λ (b : Bool). pushed id word (cond b (held_by rows p) (settled c (held_by rows p))))
+      (and_right (is_pending (place_rule (suc k) id) p) (takes_several (place_rule (suc k) id)) refl)
 
   next_place : (k : ℕ) (id : Text) → k < length ids → next_position (place_rule (suc k) id) (suc k) ≡ suc (suc k)
   next_place k id below = let few = r.few in omega arith

@@ -1,8 +1,8 @@
 //! The table of the commands: how each is written. The grammar of the command line, the reading of
 //! words, the usage and the help come from its rows.
+ghost use Rattle.command_words.specs.Commands.{form_named, form_of_row, forms};
 ghost use Rattle.std.specs.Prelude.{◌≡◌, MatchOption, None, Some, bytes_eq, find, map};
 ghost use Rattle.std.specs.Prelude.{option_copied};
-ghost use Rattle.command_words.specs.Commands.{form_named, form_of_row, forms};
 
 use std::fmt;
 

@@ -1,9 +1,9 @@
 //! From what `clap` found to the command: the row of its name, and the reader of that row.
-ghost use Rattle.std.specs.Prelude.{◌≡◌, IfOk};
-ghost use Rattle.std.specs.Result.{result_ok};
 ghost use Rattle.clap.specs.Words.{first_of, found_of, rows_of, subcommand_rows_of};
 ghost use Rattle.command_words.specs.Commands.{command_by};
 ghost use Rattle.command_words.specs.Matched.{matched_command, matched_named};
+ghost use Rattle.std.specs.Prelude.{◌≡◌, IfOk};
+ghost use Rattle.std.specs.Result.{result_ok};
 
 use crate::commands::Command;
 use crate::forms::{CommandKind, form_named};

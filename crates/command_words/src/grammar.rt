@@ -1,9 +1,9 @@
 //! The command line as `clap` knows it: the table of the commands, row by row. Help is no command
 //! and no flag here: a request for it is refused as any other word, so that it matches no command.
-ghost use Rattle.std.specs.Prelude.{◌≡◌, IfOk, fold, map, false, true};
 ghost use Rattle.clap.specs.Simple.{app_of, with_rule, with_subcommand};
 ghost use Rattle.clap.specs.Words.{rule_of};
 ghost use Rattle.command_words.specs.Commands.{form_of_row};
+ghost use Rattle.std.specs.Prelude.{◌≡◌, IfOk, fold, map, false, true};
 ghost use Rattle.command_words.specs.Grammar.{
   bare,
   command_app,

@@ -1,9 +1,9 @@
 //! The readers of the commands, one for each row of the table, over what `clap` found.
+ghost use Rattle.arc_base.specs.PrefixText.{prefix_of};
+ghost use Rattle.clap.specs.Words.{first_of, found_of, rows_of};
 ghost use Rattle.std.specs.Prelude.{◌≡◌, ◌≤◌, ◌<◌, ◌^◌, IfOk, MatchOption, MatchResult, None, Some};
 ghost use Rattle.std.specs.Prelude.{codes, option_and_then};
 ghost use Rattle.std.specs.Result.{result_ok};
-ghost use Rattle.arc_base.specs.PrefixText.{prefix_of};
-ghost use Rattle.clap.specs.Words.{first_of, found_of, rows_of};
 ghost use Rattle.command_words.specs.Commands.{
   apply_by,
   check_by,
@@ -139,7 +139,7 @@ fn number_or(
     }
 }
 
-/// Adds a lemma to the core under the next id, and to the log. Answers whether it is empty.
+/// How many conflicts a search may learn from.
 fn conflicts(found: &ArgMatches<'_>) -> Read<u64>
     ensures { result_ok result ≡ number_or DEFAULT_CONFLICTS 1 CONFLICT_LIMIT
         (first_of (codes "conflicts") (rows_of (found_of found.now))) }

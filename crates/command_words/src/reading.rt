@@ -1,9 +1,9 @@
 //! The reading of the words.
-ghost use Rattle.std.specs.Prelude.{◌≡◌, IfOk, IfSome, None, Some, if◌then◌else◌, map, option_map};
+ghost use Rattle.command_words.specs.Commands.{command_of, HasLimit};
 ghost use Rattle.std.specs.List.{list_all};
+ghost use Rattle.std.specs.Prelude.{◌≡◌, IfOk, IfSome, None, Some, if◌then◌else◌, map, option_map};
 ghost use Rattle.std.specs.Result.{result_ok};
 ghost use Rattle.std.specs.Str.{is_utf8};
-ghost use Rattle.command_words.specs.Commands.{command_of, HasLimit};
 
 use crate::commands::Command;
 use crate::forms::command_forms;

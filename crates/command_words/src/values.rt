@@ -1,10 +1,10 @@
 //! The values of words: prefixes, numbers, the numbers of links and the names of routers. Each
 //! reader says what is wrong with a word that it refuses.
-ghost use Rattle.std.specs.Prelude.{◌≡◌, ◌≤◌, ◌<◌, ◌^◌, IfOk, MatchResult, None, Some};
-ghost use Rattle.std.specs.List.{list_all};
-ghost use Rattle.std.specs.Result.{result_ok};
 ghost use Rattle.arc_base.specs.NameForms.{is_name};
 ghost use Rattle.arc_base.specs.PrefixText.{prefix_of};
+ghost use Rattle.std.specs.List.{list_all};
+ghost use Rattle.std.specs.Prelude.{◌≡◌, ◌≤◌, ◌<◌, ◌^◌, IfOk, MatchResult, None, Some};
+ghost use Rattle.std.specs.Result.{result_ok};
 ghost use Rattle.command_words.specs.Values.{
   comma_words,
   link_number,

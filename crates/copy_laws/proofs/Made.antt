@@ -9,7 +9,8 @@ use Rattle.net_model.specs.declared.rows.Network.{Network}
 use Rattle.net_model.specs.Lists.{permits}
 use Rattle.net_model.specs.Forwarding.{ListPermits}
 use Rattle.copy_laws.specs.Passing.{RealPacket}
-use Rattle.copy_laws.specs.Entries.{CloseList, close_permits, plain, acting, acting_list, with_lists, HasWider, HasNarrower, WiderListsPermitMore, NarrowerListsPermitFewer, WiderListsKeepBarred, NarrowerListsKeepReach}
+use Rattle.copy_laws.specs.Entries.{CloseList, close_permits, plain, acting, acting_list, with_lists}
+use Rattle.copy_laws.specs.Entries.{HasWider, HasNarrower, WiderListsPermitMore, NarrowerListsPermitFewer, WiderListsKeepBarred, NarrowerListsKeepReach}
 use Rattle.copy_laws.proofs.Listless.{of_some}
 use Rattle.copy_laws.proofs.Changed.{more_pass, fewer_pass, plain_is_model, acting_decides}
 use Rattle.copy_laws.proofs.Passed.{more_really, fewer_really}

@@ -14,7 +14,8 @@ use Rattle.net_model.specs.Forwarding.{Ends, Enters, Leaves, failures}
 use Rattle.net_model.specs.Policies.{HoldsAs, MeetsAs, Meets}
 use Rattle.net_laws.specs.Breaking.{no_link, SpeaksOf}
 use Rattle.net_laws.proofs.FailedSets.{holds_under_each}
-use Rattle.copy_laws.specs.Passing.{DifferInLists, PermitsWhere, PermitsFewer, IsBarring, IsReach, MoreKeepsBarred, FewerKeepsReach, AreSameEnds, MoreKeepsBarredUnder, FewerKeepsReachUnder, HoldsFor, MoreKeepsBarredReally, FewerKeepsReachReally}
+use Rattle.copy_laws.specs.Passing.{DifferInLists, PermitsWhere, PermitsFewer, IsBarring, IsReach, MoreKeepsBarred}
+use Rattle.copy_laws.specs.Passing.{FewerKeepsReach, AreSameEnds, MoreKeepsBarredUnder, FewerKeepsReachUnder, HoldsFor, MoreKeepsBarredReally, FewerKeepsReachReally}
 use Rattle.copy_laws.proofs.Kin.{Core, AreKin, same_core, carry, Moved, moved}
 use Rattle.copy_laws.proofs.Listless.{kin, mirrors}
 use Rattle.copy_laws.proofs.Meeting.{AreAlike, barred_for, reach_for, each_packet, all_packets, clear_there, barred_as, reach_as}

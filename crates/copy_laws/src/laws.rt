@@ -1,21 +1,21 @@
 //! Laws of copies: each is the contract of a function that does nothing.
-ghost use Rattle.copy_laws.specs.Passing.{MoreKeepsBarred, FewerKeepsReach, MoreKeepsBarredUnder};
-ghost use Rattle.copy_laws.specs.Passing.{FewerKeepsReachUnder, MoreKeepsBarredReally};
-ghost use Rattle.copy_laws.specs.Passing.{FewerKeepsWays, FewerKeepsReachReally};
+ghost use Rattle.copy_laws.specs.Adjacencies.{DownIsFailed, FewerLinksKeepBarred};
+ghost use Rattle.copy_laws.specs.Adjacencies.{PassiveEndsAreDown, EachSetMayBeDown};
+ghost use Rattle.copy_laws.specs.Adjacencies.{FewerLinksCostReach};
+ghost use Rattle.copy_laws.specs.Beyond.{PacketIsSure, ReachIsSure, DeliversAsModel};
+ghost use Rattle.copy_laws.specs.Beyond.{BlockedStays, ThroughStays};
+ghost use Rattle.copy_laws.specs.Cables.{CablesFailAsLinks, ReachByCables};
 ghost use Rattle.copy_laws.specs.Entries.{MorePass, FewerPass, ConditionsNarrow, PlainIsModel};
 ghost use Rattle.copy_laws.specs.Entries.{MorePassBound, FewerPassBound, LastEntryCounts};
 ghost use Rattle.copy_laws.specs.Entries.{ActingDecides, FirstEntryCounts};
 ghost use Rattle.copy_laws.specs.Entries.{WiderListsPermitMore, NarrowerListsPermitFewer};
 ghost use Rattle.copy_laws.specs.Entries.{WiderListsKeepBarred, NarrowerListsKeepReach};
-ghost use Rattle.copy_laws.specs.Adjacencies.{DownIsFailed, FewerLinksKeepBarred};
-ghost use Rattle.copy_laws.specs.Adjacencies.{PassiveEndsAreDown, EachSetMayBeDown};
-ghost use Rattle.copy_laws.specs.Adjacencies.{FewerLinksCostReach};
+ghost use Rattle.copy_laws.specs.Passing.{MoreKeepsBarred, FewerKeepsReach, MoreKeepsBarredUnder};
+ghost use Rattle.copy_laws.specs.Passing.{FewerKeepsReachUnder, MoreKeepsBarredReally};
+ghost use Rattle.copy_laws.specs.Passing.{FewerKeepsWays, FewerKeepsReachReally};
+ghost use Rattle.copy_laws.specs.Small.{GuardIsLess, QuietIsDown, TwoByTwo, DefaultAgrees};
 ghost use Rattle.copy_laws.specs.Together.{BothKeepBarred, BothCostReach, AllKeepBarred};
 ghost use Rattle.copy_laws.specs.Together.{AllCostReach};
-ghost use Rattle.copy_laws.specs.Cables.{CablesFailAsLinks, ReachByCables};
-ghost use Rattle.copy_laws.specs.Beyond.{PacketIsSure, ReachIsSure, DeliversAsModel};
-ghost use Rattle.copy_laws.specs.Beyond.{BlockedStays, ThroughStays};
-ghost use Rattle.copy_laws.specs.Small.{GuardIsLess, QuietIsDown, TwoByTwo, DefaultAgrees};
 
 /// Over a copy that permits more packets a yes of blocked or through is true of the network, and
 /// over one that permits fewer a yes of reach: for each policy, under each failure set by itself,

@@ -1,7 +1,7 @@
 -- The lines of a text that are read so far.
 use Rattle.std.proofs.Common.{◌≡◌, ℕ, zero, suc, ◌+◌, ◌<◌, List, [], ◌∷◌, ◌++◌, length, get_or, take, drop, refl, sym, ◌∙◌, ap, arith}
 
--- one item more is taken, and so many are dropped
+-- one more item is taken, and `n` are dropped
 pub record MovesOn {X : Type 0} (xs : List X) (n : ℕ) (x : X) (rest : List X) : Type 0 where
   pub within : n < length xs
   pub taken : take (n + 1) xs ≡ take n xs ++ x ∷ []

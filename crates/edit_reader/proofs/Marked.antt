@@ -1,5 +1,6 @@
--- The edits that are marked after one line more.
-use Rattle.std.proofs.Common.{◌≡◌, ◌≢◌, ℕ, ◌-◌, ◌<◌, ◌==◌, inl, inr, Bool, true, false, cond, Option, Some, None, List, [], ◌∷◌, ◌++◌, length, length-append, get_or, set, refl, sym, ◌∙◌, ap, subst, arith}
+-- The edits that are marked after one more line.
+use Rattle.std.proofs.Common.{◌≡◌, ◌≢◌, ℕ, ◌-◌, ◌<◌, ◌==◌, inl, inr, Bool, true, false, cond, Option, Some}
+use Rattle.std.proofs.Common.{None, List, [], ◌∷◌, ◌++◌, length, length-append, get_or, set, refl, sym, ◌∙◌, ap, subst, arith}
 use Rattle.std.specs.Prelude.{not, ◌||◌, bytes_eq, All, AllPairs, IsSome, map, filter}
 use Rattle.std.specs.List.{list_any, range_with_len}
 use Rattle.std.proofs.Math.Bool.{or-true}
@@ -21,7 +22,7 @@ last_of xs x d = get_or-append_right xs (x ∷ []) (length xs) (length xs) d ref
     zero_rest : (n : ℕ) → n - n ≡ 0
     zero_rest n = omega arith
 
--- a place is one of the named, where it is marked
+-- a place that is marked is one of those that lines name
 is_at-Some : (place : ℕ) (o : Option ℕ) → is_at place o ≡ true → o ≡ Some place
 is_at-Some place None e = absurd (false≢true e)
 is_at-Some place (Some p) e = ap (λ (n : ℕ). Some n) (eqb-true p place e)
@@ -31,7 +32,8 @@ module _ (net : Network) (edits : List Edit) where
   kept true line names e = absurd (false≢true (sym e))
   kept false line names e = refl
 
-  names_more : (before : List (List ℕ)) (line : List ℕ) → named_by net edits (before ++ line ∷ []) ≡ named_by net edits before ++ map (edit_of net edits) (cond (not (is_blank_line line)) (line ∷ []) [])
+  names_more : (before : List (List ℕ)) (line : List ℕ) →
+      named_by net edits (before ++ line ∷ []) ≡ named_by net edits before ++ map (edit_of net edits) (cond (not (is_blank_line line)) (line ∷ []) [])
   names_more before line =
       let filled : List ℕ → Bool = λ l. not (is_blank_line l) in
       ap (map (edit_of net edits)) (filter-append filled before (line ∷ []))
@@ -40,7 +42,7 @@ module _ (net : Network) (edits : List Edit) where
   filled_names : (before : List (List ℕ)) (line : List ℕ) → is_blank_line line ≡ false → named_by net edits (before ++ line ∷ []) ≡ named_by net edits before ++ edit_of net edits line ∷ []
   filled_names before line filled = names_more before line ∙ kept (is_blank_line line) line (named_by net edits before) filled
 
-  -- a line that names an edit that is marked
+  -- a line that names a marked edit names it twice
   twice : (names : List (Option ℕ)) (place : ℕ) → list_any (is_at place) names ≡ true → AllPairs ◌≢◌ (names ++ Some place ∷ []) → ⊥
   twice names place any once =
       let found = Any-from_list_any (is_at place) names any in
@@ -59,7 +61,7 @@ module _ (net : Network) (edits : List Edit) where
       filled_names before line filled ∙ ap (λ (o : Option ℕ). named_by net edits before ++ o ∷ []) is in
       twice (named_by net edits before) place any (subst (AllPairs ◌≢◌) names lines.once)
 
-  -- none of the named is at the place
+  -- none of the lines names the place
   not_there : (names : List (Option ℕ)) (place k : ℕ) (d : Option ℕ) → list_any (is_at place) names ≡ false → k < length names → get_or names k d ≡ Some place → ⊥
   not_there names place k d none within is =
       false≢true (sym none ∙ list_any_at (is_at place) names k d within (ap (is_at place) is ∙ eq-eqb place place refl))
@@ -67,7 +69,8 @@ module _ (net : Network) (edits : List Edit) where
   flag_after : (names : List (Option ℕ)) (flags : List Bool) (place q : ℕ) → place < length flags → q < length flags → get_or flags q false ≡ list_any (is_at q) names →
       get_or (set flags place true) q false ≡ list_any (is_at q) (names ++ Some place ∷ [])
   flag_after names flags place q within inside before =
-      let more : list_any (is_at q) (names ++ Some place ∷ []) ≡ (list_any (is_at q) names || (place == q)) = list_any-append (is_at q) names (Some place ∷ []) ∙ ap (λ (b : Bool). list_any (is_at q) names || b) (or_false (place == q)) in
+      let more : list_any (is_at q) (names ++ Some place ∷ []) ≡ (list_any (is_at q) names || (place == q)) =
+      list_any-append (is_at q) names (Some place ∷ []) ∙ ap (λ (b : Bool). list_any (is_at q) names || b) (or_false (place == q)) in
       elim (cases_eq q place) [
         | inl same ↦
             ap (λ (n : ℕ). get_or (set flags place true) n false) same ∙ get_or-set_same flags place true false within
@@ -112,6 +115,6 @@ module _ (net : Network) (edits : List Edit) where
     chosen = fill_by_all (λ (q : ℕ). list_any (is_at q) []) flags (length edits) false long each;
   }
 
-  -- an edit that a line names is one of them
+  -- an edit that a line names is one of the edits
   pub place_within : (line : List ℕ) (place : ℕ) → edit_of net edits line ≡ Some place → place < length edits
   place_within line place is = (position-Some (λ (edit : Edit). bytes_eq (edit_text net edit) line) edits place (Session (record { 0 = 0 })) is).0

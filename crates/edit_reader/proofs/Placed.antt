@@ -21,7 +21,7 @@ use Rattle.edit_reader.proofs.Marked.{last_of, place_within}
 abbrev pub at_place : Bool → ℕ → Option ℕ
 at_place passes place = cond passes (Some place) None
 
--- ---- the first place of a list with one item more
+-- ---- the first place in a list with one more item
 
 module _ {X : Type 0} (p : X → Bool) (xs : List X) (x : X) where
   none_before : (k : ℕ) (d : X) → position p xs ≡ None → k < length xs → p (get_or xs k d) ≡ false
@@ -69,13 +69,14 @@ put None false place absent = refl
 put (Some p) true place absent = absurd (false≢true (sym (absent refl)))
 put (Some p) false place absent = refl
 
--- the same text has the same place
+-- equal texts have one place
 pub alike : (found : TextPlaces) (text other : List ℕ) (b : Bool) → is_some (place_of found text) ≡ b → bytes_eq text other ≡ true → is_some (place_of found other) ≡ b
 alike found text other b is same = subst (λ (t : List ℕ). is_some (place_of found t) ≡ b) ((bytes_eq-Decides text other).0 same) is
 
 -- ---- the texts of edits
 
-pub texts_more : (net : Network) (edits : List Edit) (at : ℕ) (text : List ℕ) → at < length edits → IsTextAt net edits at text → map (edit_text net) (take (at + 1) edits) ≡ map (edit_text net) (take at edits) ++ text ∷ []
+pub texts_more : (net : Network) (edits : List Edit) (at : ℕ) (text : List ℕ) → at < length edits → IsTextAt net edits at text →
+    map (edit_text net) (take (at + 1) edits) ≡ map (edit_text net) (take at edits) ++ text ∷ []
 texts_more net edits at text within is =
     elim (slice_get_cases edits at).1 [
       | inl (edit, inside, there, here) ↦
@@ -95,7 +96,8 @@ mapped p f xs =
     let all = length-map xs f in
     λ i. cond (nat_lt (n i) (all i)) (Some (n i)) None
 
-pub finds_edits : (net : Network) (edits : List Edit) (texts : List (List ℕ)) (found : TextPlaces) → texts ≡ map (edit_text net) edits → ((text : List ℕ) → place_of found text ≡ position (λ t. bytes_eq t text) texts) →
+pub finds_edits : (net : Network) (edits : List Edit) (texts : List (List ℕ)) (found : TextPlaces) → texts ≡ map (edit_text net) edits →
+    ((text : List ℕ) → place_of found text ≡ position (λ t. bytes_eq t text) texts) →
     FindsEdits net edits found
 finds_edits net edits texts found are each text = each text ∙ ap (position (λ t. bytes_eq t text)) are ∙ mapped (λ t. bytes_eq t text) (edit_text net) edits
 

@@ -11,7 +11,7 @@ use Rattle.policy_report.specs.Edits.{edit_of}
 use Rattle.edit_reader.specs.declared.reading.Named.{Named}
 use Rattle.edit_reader.specs.declared.reading.Named.TheVariants.{Edits, Wrong}
 
--- the lines of a text, each without its end: a line feed, or a carriage return and a line feed
+-- the lines of a text, each without its end: LF, or CR LF
 abbrev pub line_texts : List ℕ → List (List ℕ)
 line_texts text = map without_terminator (lines_of text)
 
@@ -19,16 +19,16 @@ line_texts text = map without_terminator (lines_of text)
 abbrev pub is_blank_line : List ℕ → Bool
 is_blank_line line = list_all is_blank line
 
--- what the lines that are not blank name: the place of an edit, or none
+-- for each line that is not blank the place of the edit that it names, or None
 abbrev pub named_by : Network → List Edit → List (List ℕ) → List (Option ℕ)
 named_by net edits ls = map (edit_of net edits) (filter (λ line. not (is_blank_line line)) ls)
 
--- each line that is not blank names an edit, and no two name the same
+-- each line that is not blank names an edit, and no two name one edit
 pub record AreEditLines (net : Network) (edits : List Edit) (ls : List (List ℕ)) : Type 0 where
   pub named : All IsSome (named_by net edits ls)
   pub once : AllPairs ◌≢◌ (named_by net edits ls)
 
--- whether this is the edit at the place
+-- whether a line names the edit at this place
 abbrev pub is_at : ℕ → Option ℕ → Bool
 is_at place named = option_map_or (λ p. p == place) named false
 
@@ -37,8 +37,8 @@ abbrev pub chosen_by : Network → List Edit → List (List ℕ) → List Bool
 chosen_by net edits ls =
     map (λ place. list_any (is_at place) (named_by net edits ls)) (range_with_len 0 (length edits))
 
--- the line of this number, counted from 1, is the first that names no edit, or one that a line
--- before names
+-- the line of this number, counted from 1, is the first that names no edit, or one that an earlier
+-- line names
 pub record IsWrongLine (net : Network) (edits : List Edit) (ls : List (List ℕ))
     (number : ℕ) : Type 0 where
   pub place : ℕ
@@ -47,7 +47,7 @@ pub record IsWrongLine (net : Network) (edits : List Edit) (ls : List (List ℕ)
   pub right_before : AreEditLines net edits (take place ls)
   pub wrong : ¬ AreEditLines net edits (take (place + 1) ls)
 
--- what the text of an edit file names: edits, each once, or it has a first wrong line
+-- the answer on the text of an edit file: which edits it names, each once, or its first wrong line
 abbrev pub ReadsEdits : Network → List Edit → List ℕ → Named → Type 0
 ReadsEdits net edits text (Edits chosen) =
     AreEditLines net edits (line_texts text) × (chosen ≡ chosen_by net edits (line_texts text))
@@ -60,6 +60,6 @@ pub record AreMarked (net : Network) (edits : List Edit) (ls : List (List ℕ))
   pub chosen : flags ≡ chosen_by net edits ls
 
 -- there is one flag for each edit
-abbrev pub HasFlags : List Edit → Named → Type 0
-HasFlags edits (Edits chosen) = length chosen ≡ length edits
-HasFlags edits (Wrong number) = Unit {0}
+abbrev pub HasOneFlagEach : List Edit → Named → Type 0
+HasOneFlagEach edits (Edits chosen) = length chosen ≡ length edits
+HasOneFlagEach edits (Wrong number) = Unit {0}

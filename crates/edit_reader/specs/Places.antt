@@ -7,14 +7,14 @@ use Rattle.edit_list.specs.declared.edit_kinds.Edit.{Edit}
 use Rattle.policy_report.specs.Edits.{edit_of}
 use Rattle.edit_reader.specs.declared.places.TextPlaces.{TextPlaces}
 
--- the place that the text has, if it has one
+-- the place of the text, if it has one
 abbrev pub place_of : TextPlaces → List ℕ → Option ℕ
 place_of found text = get_by (λ (k : Bor (List ℕ)). bytes_eq text k.now) found.places
 
--- each text has the place of the first edit with this text
+-- each text has the place of the first edit with it
 abbrev pub FindsEdits : Network → List Edit → TextPlaces → Type 0
 FindsEdits net edits found = (text : List ℕ) → place_of found text ≡ edit_of net edits text
 
--- each place is below this
+-- each place is below the bound
 abbrev pub AreBelow : ℕ → TextPlaces → Type 0
 AreBelow bound found = (text : List ℕ) → IfSome (place_of found text) (λ place. place < bound)

@@ -1,10 +1,9 @@
-//! The places of edits by their texts: each text is made once, and a look-up goes through none of
-//! the others.
+//! The places of edits, looked up by their texts in a hash map; each text is made once.
+ghost use Rattle.edit_reader.specs.Places.{place_of, FindsEdits};
+ghost use Rattle.policy_report.specs.Edits.{edit_text};
+ghost use Rattle.std.specs.Option.{option_or};
 ghost use Rattle.std.specs.Prelude.{◌≡◌, ◌<◌, ◌^◌, ℕ, List as Items, Some, None, length, map, IfOk};
 ghost use Rattle.std.specs.Prelude.{bytes_eq, if◌then◌else◌};
-ghost use Rattle.std.specs.Option.{option_or};
-ghost use Rattle.policy_report.specs.Edits.{edit_text};
-ghost use Rattle.edit_reader.specs.Places.{place_of, FindsEdits};
 
 use arc_base::{List, Memory, Name};
 use edit_list::Edit;
@@ -35,7 +34,7 @@ pub(crate) struct TextPlaces<'a> {
 }
 
 impl<'a> TextPlaces<'a> {
-    /// Notes the place of a text that has none.
+    /// Notes the place of a text, unless it has one.
     fn note(&mut self, text: &'a [u8], place: u32) -> Result<(), Memory>
         ensures { IfOk result (λ done. (other : Items ℕ) → place_of self.new other
             ≡ option_or (place_of self.old other)

@@ -1,9 +1,9 @@
 //! The edits that an edit file names.
+ghost use Rattle.edit_reader.specs.EditFiles.{is_blank_line, AreEditLines, AreMarked};
+ghost use Rattle.edit_reader.specs.EditFiles.{HasOneFlagEach, ReadsEdits};
+ghost use Rattle.edit_reader.specs.Places.{AreBelow, FindsEdits};
 ghost use Rattle.std.specs.Prelude.{◌≡◌, ◌^◌, ◌<◌, ◌++◌, [], ◌∷◌, ℕ, List as Items, length, IfOk};
 ghost use Rattle.std.specs.Prelude.{MatchBool};
-ghost use Rattle.edit_reader.specs.EditFiles.{is_blank_line, AreEditLines, AreMarked, HasFlags};
-ghost use Rattle.edit_reader.specs.EditFiles.{ReadsEdits};
-ghost use Rattle.edit_reader.specs.Places.{AreBelow, FindsEdits};
 
 use crate::places::{TextPlaces, edit_texts};
 use arc_base::{List, Memory};
@@ -17,8 +17,8 @@ use std::alloc::Global;
 pub enum Named {
     /// For each edit whether a line names it.
     Edits(List<bool>),
-    /// The number of the first wrong line, counted from 1: it names no edit, or one that a line
-    /// before names.
+    /// The number of the first wrong line, counted from 1: it names no edit, or one that an earlier
+    /// line names.
     Wrong(u32),
 }
 
@@ -28,8 +28,8 @@ fn is_blank_line(line: &[u8]) -> bool
     line.iter().all(|byte| *byte == b' ' || *byte == b'\t')
 }
 
-/// Marks the edit that the line names. It answers `false` where the line is not blank and names no
-/// edit, or one that is marked.
+/// Marks the edit that the line names. Returns `false` if the line is not blank and names no edit,
+/// or one that is marked already.
 fn mark(places: &TextPlaces<'_>, line: &[u8], chosen: &mut Vec<bool>) -> bool
     requires { AreBelow (length chosen.old.items) places.now }
     ensures whole { length chosen.new.items ≡ length chosen.old.items }
@@ -51,10 +51,10 @@ fn mark(places: &TextPlaces<'_>, line: &[u8], chosen: &mut Vec<bool>) -> bool
     true
 }
 
-/// The edits that the lines of a text name, each line one by its text. Lines may end in a carriage
-/// return and a line feed, and lines of spaces and tabs alone are skipped. A carriage return at the
-/// end of a text that has no line feed there is a byte of its line. The time is linear in the texts
-/// of all edits and in the bytes of the text.
+/// The edits that the lines of a text name, one edit a line. A line ends in LF or CR LF, and lines
+/// of spaces and tabs alone are skipped. A carriage return at the end of the text, with no line
+/// feed after it, is a byte of its line. It takes time linear in the texts of all edits and in the
+/// bytes of the text.
 pub fn named_edits(
     alloc: Global,
     net: &Network,
@@ -63,7 +63,7 @@ pub fn named_edits(
 ) -> Result<Named, Memory>
     requires { length text.now < 2 ^ 32 }
     ensures answer { IfOk result (ReadsEdits net.now edits.now text.now) }
-    ensures flags { IfOk result (HasFlags edits.now) }
+    ensures flags { IfOk result (HasOneFlagEach edits.now) }
 {
     let texts = edit_texts(alloc, net, edits)?;
     let places = TextPlaces::of(alloc, texts.slice())?;

@@ -1,5 +1,6 @@
 -- The plain text of a formula is read as the formula.
-use Rattle.std.proofs.Common.{◌≡◌, ℕ, ◌+◌, ◌-◌, ◌<◌, ◌≤◌, ◌^◌, ℤ, pos, true, false, ◌&&◌, ◌==◌, nat_le, nat_lt, List, [], ◌∷◌, ◌++◌, length, map, flat_map, refl, ap, ap₂, sym, ◌∙◌, subst, arith, All, Some, None, Ok, Err, decimal, codes, append_assoc, append-nil, option_map, option_and_then, sum_by, length-append}
+use Rattle.std.proofs.Common.{◌≡◌, ℕ, ◌+◌, ◌-◌, ◌<◌, ◌≤◌, ◌^◌, ℤ, pos, true, false, ◌&&◌, ◌==◌, nat_le, nat_lt, List, [], ◌∷◌, ◌++◌, length, map}
+use Rattle.std.proofs.Common.{flat_map, refl, ap, ap₂, sym, ◌∙◌, subst, arith, All, Some, None, Ok, Err, decimal, codes, append_assoc, append-nil, option_map, option_and_then, sum_by, length-append}
 use Rattle.std.specs.List.{list_any}
 use Rattle.std.specs.Option.{option_map_or}
 use Rattle.std.proofs.lemmas.Bool.{and_from, cond-true, cond-false, eq-eqb, le-leb, le-ltb}
@@ -12,7 +13,8 @@ use Rattle.cnf_types.specs.declared.clauses.Formula.{Formula}
 use Rattle.cnf_types.specs.declared.faults.CnfFault.TheVariants.{BadHeader}
 use Rattle.cnf_types.specs.declared.header.Header.{Header}
 use Rattle.cnf_types.specs.declared.literal.Lit.{Lit}
-use Rattle.cnf_types.specs.Dimacs.{after_header, closed, content, count, counted, ends_closed, first_bad, from_header, header, is_bad, is_comment, is_zero, judged, line_numbers, line_words, literal_of, numbers, pieces, reading, sized}
+use Rattle.cnf_types.specs.Dimacs.{after_header, closed, content, count, counted, ends_closed, first_bad, from_header, header, is_bad}
+use Rattle.cnf_types.specs.Dimacs.{is_comment, is_zero, judged, line_numbers, line_words, literal_of, numbers, pieces, reading, sized}
 use Rattle.cnf_types.specs.Literals.{is_positive, variable}
 use Rattle.arc_base.specs.WordNumbers.{natural}
 use Rattle.arc_base.specs.TextLines.{lines, without_return}
@@ -70,7 +72,8 @@ module _ (vars : ℕ) (small : vars < 2 ^ 63) where
       let here = All-head (λ c. All (IsOfVariables vars) c.lits) c cs h in
       let line = clause_words c in
       let good : list_any (is_bad vars) (words line) ≡ false = ap (list_any (is_bad vars)) (clause-read c here) ∙ literals-good vars small c.lits here in
-      sym (bad_later vars n line line (map clause_words cs) (line ∷ map clause_words cs) refl (no-comment c.lits here) (sym (no-return line (some-bytes (before_spaces (map literal_text c.lits))) (in-line c here))) good)
+      sym (bad_later vars n line line (map clause_words cs) (line ∷ map clause_words cs) refl (no-comment c.lits here)
+      (sym (no-return line (some-bytes (before_spaces (map literal_text c.lits))) (in-line c here))) good)
       ∙ no-bad (n + 1) cs (All-tail (λ c. All (IsOfVariables vars) c.lits) c cs h)
 
   -- the numbers of the clauses
@@ -83,7 +86,8 @@ module _ (vars : ℕ) (small : vars < 2 ^ 63) where
   numbers-read n (c ∷ cs) h =
       let here = All-head (λ c. All (IsOfVariables vars) c.lits) c cs h in
       let line = clause_words c in
-      sym (numbers_line vars n line line (map clause_words cs) (line ∷ map clause_words cs) [] refl (no-comment c.lits here) (sym (no-return line (some-bytes (before_spaces (map literal_text c.lits))) (in-line c here))))
+      sym (numbers_line vars n line line (map clause_words cs) (line ∷ map clause_words cs) [] refl (no-comment c.lits here)
+      (sym (no-return line (some-bytes (before_spaces (map literal_text c.lits))) (in-line c here))))
       ∙ ap₂ (λ a b. a ++ b) (ap (line_numbers vars) (clause-read c here) ∙ literals-numbers vars small c.lits here) (numbers-read (n + 1) cs (All-tail (λ c. All (IsOfVariables vars) c.lits) c cs h))
       ∙ append_assoc (map number_of c.lits) (pos 0 ∷ []) (all_numbers cs)
 
@@ -171,7 +175,8 @@ counted-read : (f : Formula) (last : ℕ) → IsWithinLimits f → counted (reco
 counted-read f last h =
     let same : (length (closed (closed_pieces f.clauses)) == length f.clauses) ≡ true = eq-eqb _ _ (ap length (closed-back f.clauses)) in
     let few : sum_by length (closed_pieces f.clauses) ≤ 32000000 = subst (λ (n : ℕ). n ≤ 32000000) (sym (literals-counted f.clauses)) h.few_literals in
-    cond-true ((length (closed (closed_pieces f.clauses)) == length f.clauses) && ends_closed (closed_pieces f.clauses)) (sized f.vars (closed_pieces f.clauses)) _ (and_from _ _ same (ends-closed f.clauses))
+    cond-true ((length (closed (closed_pieces f.clauses)) == length f.clauses) && ends_closed (closed_pieces f.clauses)) (sized f.vars (closed_pieces f.clauses)) _
+    (and_from _ _ same (ends-closed f.clauses))
     ∙ cond-true (nat_le (sum_by length (closed_pieces f.clauses)) 32000000) (Ok (record { vars = f.vars; clauses = closed (closed_pieces f.clauses) })) _ (le-leb _ _ few)
     ∙ ap (λ (cs : List Clause). Ok (record { vars = f.vars; clauses = cs })) (closed-back f.clauses)
 

@@ -1,5 +1,6 @@
 -- Words, literals and lines of a formula's text, and what they are read as.
-use Rattle.std.proofs.Common.{◌≡◌, ℕ, suc, zero, ◌+◌, ◌-◌, ◌*◌, ◌/◌, ◌%◌, ◌<◌, ◌≤◌, ◌^◌, ℤ, pos, negsuc, Bool, true, false, cond, ◌||◌, ◌==◌, List, [], ◌∷◌, ◌++◌, length, take, get_or, map, filter, refl, ap, ap₂, ◌∙◌, arith, All, Some, None, decimal, option_map, option_and_then, is_none, ⊎_elim}
+use Rattle.std.proofs.Common.{◌≡◌, ℕ, suc, zero, ◌+◌, ◌-◌, ◌*◌, ◌/◌, ◌%◌, ◌<◌, ◌≤◌, ◌^◌, ℤ, pos, negsuc, Bool, true, false, cond, ◌||◌, ◌==◌}
+use Rattle.std.proofs.Common.{List, [], ◌∷◌, ◌++◌, length, take, get_or, map, filter, refl, ap, ap₂, ◌∙◌, arith, All, Some, None, decimal, option_map, option_and_then, is_none, ⊎_elim}
 use Rattle.std.specs.List.{list_any, slice_split, cons_option}
 use Rattle.std.proofs.lemmas.Bool.{cond-true, cond-false, ne_eqb, eq-eqb, le-leb, cases_eq}
 use Rattle.std.proofs.lemmas.Fmt.{decimal_is_IsNumeral}
@@ -91,7 +92,8 @@ of_code n = record { code = n }
 literal-back : (l : Lit) → literal (variable l) (is_positive l) ≡ l
 literal-back l = ⊎_elim
     (λ (e : l.code % 2 ≡ 0). ap (λ b. of_code (cond b (2 * (l.code / 2)) (2 * (l.code / 2) + 1))) (eq-eqb (l.code % 2) 0 e) ∙ ap of_code (let same : 2 * (l.code / 2) ≡ l.code = omega arith in same))
-    (λ (h : l.code % 2 ≡ 0 → ⊥). ap (λ b. of_code (cond b (2 * (l.code / 2)) (2 * (l.code / 2) + 1))) (ne_eqb (l.code % 2) 0 h) ∙ ap of_code (let same : 2 * (l.code / 2) + 1 ≡ l.code = omega arith in same))
+    (λ (h : l.code % 2 ≡ 0 → ⊥). ap (λ b. of_code (cond b (2 * (l.code / 2)) (2 * (l.code / 2) + 1))) (ne_eqb (l.code % 2) 0 h)
+    ∙ ap of_code (let same : 2 * (l.code / 2) + 1 ≡ l.code = omega arith in same))
     (cases_eq (l.code % 2) 0)
 
 -- the literals of a clause, written as words and read as numbers

@@ -1,4 +1,4 @@
--- What is said of the files, from what was read of them.
+-- The notes on the files, given what was read of them.
 use Rattle.std.proofs.Common.{ℕ, Bool, true, false, List, []}
 use Rattle.std.specs.Prelude.{◌↔◌, not, IsTrue, Option, Some, None, IfSome, Ok}
 use Rattle.std.proofs.lemmas.Bool.{false≢true}

@@ -1,4 +1,4 @@
--- What is said of any forwarding in addition to an answer.
+-- What an answer means for any forwarding.
 use Rattle.std.specs.Prelude.{◌↔◌, ℕ, Bool, IsTrue, List, []}
 use Rattle.arc_outside.specs.Files.{Files}
 use Rattle.net_model.specs.declared.policies.Document.{Document}
@@ -13,9 +13,9 @@ use Rattle.run_inputs.specs.Inputs.{HoldsInput}
 use Rattle.any_forwarding_laws.specs.Forwardings.{IsOpenNetwork}
 use Rattle.any_forwarding_laws.specs.Laws.{RunsEverywhere, VerdictsDecideAny}
 
--- it is said whether OSPF runs everywhere in the network of the document and its files; where it
--- does, the network is open, and a right verdict on a blocked or through policy is a yes exactly
--- where what the policy asks holds for any forwarding
+-- `any` says whether OSPF runs everywhere in the network of the document and its files; if it does,
+-- the network is open, and a right verdict on a blocked or through policy is a yes exactly if what
+-- the policy asks holds for any forwarding
 pub record SaysOfAny (document : List ℕ) (files : Files) (any : Bool) : Type 0 where
   pub doc : Document
   pub net : Network

@@ -1,5 +1,5 @@
-//! What there is to say of any forwarding in addition to an answer: that a yes holds for it, where
-//! the network of the files is open, and that edits of sessions take this away.
+//! What an answer means for any forwarding: a yes holds for it if OSPF runs everywhere in the
+//! network of the files, and edits of sessions can end this.
 #![tactic(auto)]
 
 mod notes;

@@ -1,4 +1,4 @@
-//! Whether the network of router files is open, and whether edits close it.
+//! Whether OSPF runs everywhere in the network of router files, and whether edits end this.
 ghost use Rattle.forwarding_notes.specs.Notes.{SaysOfAny, IsAfterLines, AreClosed};
 ghost use Rattle.net_doc.specs.Documents.{IsWellFormed};
 ghost use Rattle.run_inputs.specs.Inputs.{AreFit, HoldsDocument};
@@ -33,7 +33,7 @@ pub fn holds_for_any<S: Store>(
     Ok(runs_everywhere(&input.net))
 }
 
-/// The network after the edits that the lines of a text name, where each names one.
+/// The network after the edits that the lines of a text name, if each line names one.
 fn after_lines(
     alloc: Global,
     net: &Network,
@@ -56,9 +56,9 @@ fn after_lines(
     }
 }
 
-/// Whether OSPF runs everywhere in the network of a document and its router files, and no longer
-/// after the edits that the lines of a text name: then a yes over the network after them is no
-/// longer shown to hold for any forwarding.
+/// Whether OSPF runs everywhere in the network of a document and its router files, but not after
+/// the edits that the lines of a text name. Then a yes over the network after them need not hold
+/// for any forwarding.
 pub fn edits_close<S: Store>(
     alloc: Global,
     document: &Name,

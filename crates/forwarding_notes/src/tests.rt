@@ -38,7 +38,7 @@ router ospf 1
 ";
 
 /// The text of the first router, the edits, whether a yes holds for any forwarding, and whether the
-/// edits take this away.
+/// edits end this.
 const ROWS: &[(&str, &str, bool, bool)] = &[
     (R1, "edit session r1 GigabitEthernet0/1\n", true, true),
     (R1, "", true, false),

@@ -1,4 +1,4 @@
--- The answer of `generate`: what its lines tell, and what is whole.
+-- The answer of `generate`: what its lines say, and that its claim is whole.
 use Rattle.std.proofs.Common.{◌≡◌, ◌⊎◌, ℕ, ◌+◌, inl, inr, Bool, true, false, cond, List, [], ◌∷◌, ◌++◌, length, ◌≤◌, refl, sym, ap, subst, arith}
 use Rattle.std.specs.Prelude.{codes, Option, Some, None, IfSome, Result, Ok, Err}
 use Rattle.std.specs.List.{AllZip}
@@ -21,7 +21,7 @@ use Rattle.traffic_classes.proofs.EachPolicy.{no_more}
 use Rattle.traffic_classes.proofs.Unions.{have_one_list}
 use Rattle.arc_repair.specs.declared.answer.Answer.{Answer}
 use Rattle.arc_repair.specs.declared.answer.Answer.TheVariants.{Done as Claimed, Budget}
-use Rattle.arc_repair.specs.Answers.{IsAnswer, IsRepairFault}
+use Rattle.arc_repair.specs.Answers.{IsRepairAnswer, IsRepairFault}
 use Rattle.arc_repair.specs.Claims.{IsRightYes}
 use Rattle.verdicts.specs.Judged.{HasFewClassesEach}
 use Rattle.command_words.specs.declared.commands.GenerateWords.{GenerateWords}
@@ -54,7 +54,7 @@ chosen_length (edit ∷ list) [] same = absurd (omega (arith, same))
 chosen_length (edit ∷ list) (true ∷ flags) same = omega (arith, flag_more true flags, chosen_length list flags (omega (arith, same)))
 chosen_length (edit ∷ list) (false ∷ flags) same = omega (arith, flag_more false flags, chosen_length list flags (omega (arith, same)))
 
--- ---- right yeses are right verdicts
+-- ---- right yes answers are right verdicts
 
 rights : (net : Network) (policies : List Policy) (verdicts : List Verdict) → AllZip (IsRightYes net) policies verdicts → AllZip (IsRight net) policies verdicts
 rights net [] [] h = tt
@@ -62,7 +62,7 @@ rights net [] (v ∷ vs) h = absurd h
 rights net (p ∷ ps) [] h = absurd h
 rights net (p ∷ ps) (v ∷ vs) h = (h.0.right, rights net ps vs h.1)
 
--- ---- what it tells
+-- ---- what its lines say
 
 module _ (ends : (net : Network) → IsValid net → HasOnePairOfEnds net) (are_true : (net : Network) → IsValid net → RightVerdictsAreTrue net)
     (decide : (net : Network) → IsValid net → RightVerdictsDecide net) where
@@ -70,7 +70,7 @@ module _ (ends : (net : Network) → IsValid net → HasOnePairOfEnds net) (are_
   tally_is net valid = tallied net (decide net valid) (are_true net valid) (ends net valid)
 
   pub tells : AfterIsValid → (net : Network) (doc : Document) (list : List Edit) (answer : Answer) → IsValid net → IsCountable net
-      → IsAnswer net doc list default_bound default_conflicts answer → TellsAnswer net doc list answer (answer_lines answer)
+      → IsRepairAnswer net doc list default_bound default_conflicts answer → TellsAnswer net doc list answer (answer_lines answer)
   tells stays net doc list (Claimed (Repaired price bound flags verdicts) log) valid countable is =
       let right = is.is_true.right in
       record {
@@ -111,7 +111,7 @@ answers words held (Err stops.Failed) is = tt
 
 -- ---- few classes
 
--- where the document has few classes, each policy has few
+-- if the document has few classes, each policy has few
 pub few_each : (net : Network) (doc : Document) → DocumentHasFewClasses net doc → HasFewClassesEach net doc.policies
 few_each net doc few policy one classes are =
     let all = (have_one_list net doc.policies doc.policies).0 in

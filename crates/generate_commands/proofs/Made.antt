@@ -1,4 +1,4 @@
--- What is known of the document and the files that are made.
+-- What is known of the document and the files that are generated.
 use Rattle.std.proofs.Common.{◌≡◌, ◌≢◌, ℕ, zero, suc, ◌+◌, ◌<◌, ◌≤◌, List, [], ◌∷◌, ◌++◌, length, map, length-append, sym, ap, subst, arith}
 use Rattle.std.specs.Prelude.{All, AllPairs, codes, decimal}
 use Rattle.std.specs.List.{AllZip, range_with_len}
@@ -40,7 +40,7 @@ along (ask ∷ asks) (policy ∷ policies) h few =
     All-cons HasFew policy policies (subst HasFewFailures (sym h.0.kind) (few 0 ask (omega arith)))
     (along asks policies h.1 (λ k d within. few (suc k) d (omega (arith, within))))
 
--- each policy that is asked speaks of few failures
+-- each policy that is generated allows few failures
 pub few_failures : (n : ℕ) (made : Generated) → IsGenerated n made → All HasFew made.doc.policies
 few_failures n made is = along (asked n) made.doc.policies is.doc.policies (asked_few n)
 

@@ -1,4 +1,4 @@
--- What right verdicts tally: so many policies are met, broken, and not clear.
+-- What right verdicts tally: how many policies are met, broken, and not clear.
 use Rattle.std.proofs.Common.{◌≡◌, ◌∙◌, ℕ, ◌+◌, ◌<◌, inl, inr, Bool, true, false, cond, List, [], ◌∷◌, length, take, get_or, refl, sym, ap, subst, arith}
 use Rattle.std.specs.Prelude.{count_by}
 use Rattle.std.specs.List.{AllZip}
@@ -33,7 +33,7 @@ one_verdict_more verdicts k v within =
     (sum_by_more (λ x. cond (is_no x) 1 0) verdicts k v within)
     (sum_by_more (λ x. cond (is_refused x) 1 0) verdicts k v within)
 
--- ---- so many
+-- ---- counts
 
 module _ {X Y : Type 0} (P : X → Type 0) (is : Y → Bool) (R : X → Y → Type 0) (says : (x : X) (y : Y) → R x y → is y ≡ true → P x)
     (denies : (x : X) (y : Y) → R x y → is y ≡ false → P x → ⊥) where
@@ -80,7 +80,7 @@ module _ (net : Network) (decide : RightVerdictsDecide net) (are_true : RightVer
         unclear = are_true policy (Refused packet link) right;
       }
 
-  -- where a class is clear for the ends of the verdict, it is for those of the policy
+  -- if a class is clear for the ends of the verdict, it is for those of the policy
   module _ (policy : Policy) (u : IsUnclear net policy) where
     not_clear : (ends : Ends) → ends ≡ u.ends → IsClear net ends (subject policy) → ⊥
     not_clear ends same clear = u.unclear (subst (λ (e : Ends). IsClear net e (subject policy)) same clear)
@@ -116,7 +116,7 @@ module _ (net : Network) (decide : RightVerdictsDecide net) (are_true : RightVer
   not_broken policy (Cut links side) right e b = absurd (false≢true (sym e))
   not_broken policy (Refused packet link) right e b = b.1 (unclear policy (Refused packet link) right refl)
 
-  -- right verdicts on policies tally what these are
+  -- right verdicts tally the policies that they are on
   pub tallied : (policies : List Policy) (verdicts : List Verdict) → AllZip (IsRight net) policies verdicts → IsTally net policies (tally_of verdicts)
   tallied policies verdicts right = record {
     yes = so_many (Meets net) is_yes (IsRight net) met not_met policies verdicts right;

@@ -1,4 +1,4 @@
--- What the status of `generate` tells.
+-- What the status of `generate` says.
 use Rattle.std.proofs.Common.{◌≡◌, ◌∙◌, ℕ, Bool, Some, List, [], sym, ap, subst}
 use Rattle.arc_outside.specs.Files.{Files, with_file, with_files}
 use Rattle.net_model.specs.declared.policies.Document.{Document}
@@ -29,7 +29,7 @@ use Rattle.repair_commands.specs.Repairs.{IsAnswered}
 use Rattle.repair_commands.proofs.Counted.{kept_or_passed, one_fault}
 use Rattle.repair_commands.proofs.Outcomes.{can_be, has_repair, not_both, shows_cheapest, shows_none, shows_spent, tells_cheapest, tells_none, tells_refused, tells_spent}
 use Rattle.generate_commands.specs.Generates.{IsGenerateRefusal, IsMadeNetwork, IsSummary, certificate_of, default_bound, default_conflicts, document_name, status_of}
-use Rattle.generate_commands.specs.Tells.{CanBeRepaired, CannotBeRepaired, GeneratesCheapest, GeneratesNone, GeneratesSpentCertificate, IsGenerateRefused, TellsGenerate}
+use Rattle.generate_commands.specs.Tells.{GeneratedCanBeRepaired, GeneratedCannotBeRepaired, GeneratesCheapest, GeneratesNone, GeneratesSpentCertificate, IsGenerateRefused, TellsGenerate}
 use Rattle.generate_commands.proofs.OneMade.{one_made}
 
 module _ (words : GenerateWords) where
@@ -65,7 +65,7 @@ module _ (words : GenerateWords) where
     abbrev now : Files
     now = with_files d.writes files
 
-    -- what is answered, what is written of it, and the status
+    -- the answer, what is written for it, and the status
     abbrev Gave : Answer → Type 0
     Gave answer =
         IsAnswered default_bound default_conflicts done.built.net done.made.doc done.list answer × (now words.proof ≡ Some (certificate_of done.built.net done.made.doc done.list answer))
@@ -91,10 +91,11 @@ module _ (words : GenerateWords) where
     told_repaired : (price : ℕ) (flags : List Bool) (verdicts : List Verdict) (log : Log) → Gave (Claimed (Repaired price default_bound flags verdicts) log) → TellsGenerate words d.status files now
     told_repaired price flags verdicts log (answered, written, zero') =
         let new = patches_are_there [] 2048 done.made.doc done.built done.made.files (chosen_of done.list flags) done.is_made.is_built in
-        let shown = shows_cheapest default_bound default_conflicts done.made.doc done.built done.made.files done.list done.editable price flags verdicts log new.0 (now words.proof) answered new.1 written in
+        let shown = shows_cheapest default_bound default_conflicts done.made.doc done.built done.made.files done.list done.editable price flags verdicts log new.0
+        (now words.proof) answered new.1 written in
         let has = has_repair default_bound default_conflicts done.made.doc done.built done.made.files done.list done.editable price flags verdicts log answered in
         let found : GeneratesCheapest words files now = record { made = done.made; built = done.built; is_made = done.is_made; repair = shown; kept = kept } in
-        let can : CannotBeRepaired words → ⊥ = λ cannot.
+        let can : GeneratedCannotBeRepaired words → ⊥ = λ cannot.
         not_both default_bound done.built.net done.made.doc done.editable.fit.valid has
         (moved done.made done.built done.is_made (λ e n. HasNoRepair default_bound n e) cannot.made cannot.built cannot.is_made cannot.none) in
         tells_cheapest files now d.status zero' found never can
@@ -103,7 +104,7 @@ module _ (words : GenerateWords) where
     told_none log (answered, written, two) =
         let shown = shows_none default_bound default_conflicts done.made.doc done.built done.made.files done.list done.editable log (now words.proof) answered written in
         let none : GeneratesNone words files now = record { made = done.made; built = done.built; is_made = done.is_made; shown = shown; kept = kept } in
-        let cannot : CanBeRepaired words → ⊥ = λ can.
+        let cannot : GeneratedCanBeRepaired words → ⊥ = λ can.
         not_both default_bound done.built.net done.made.doc done.editable.fit.valid
         (moved done.made done.built done.is_made (λ e n. HasRepair default_bound n e) can.made can.built can.is_made can.repair) shown.none in
         tells_none files now d.status two none never cannot
@@ -126,8 +127,8 @@ module _ (words : GenerateWords) where
   told_refused : (files : Files) (r : FileRefusal) → IsGenerateRefusal words r → TellsGenerate words 5 files files
   told_refused files r refused =
       let is : IsGenerateRefused words = record { refusal = r; refused = refused } in
-      let never_can : CanBeRepaired words → ⊥ = λ can. not_refused can.made can.built can.is_made can.repair.list can.repair.repairable r refused in
-      let never_cannot : CannotBeRepaired words → ⊥ = λ cannot. not_refused cannot.made cannot.built cannot.is_made cannot.none.list cannot.none.repairable r refused in
+      let never_can : GeneratedCanBeRepaired words → ⊥ = λ can. not_refused can.made can.built can.is_made can.repair.list can.repair.repairable r refused in
+      let never_cannot : GeneratedCannotBeRepaired words → ⊥ = λ cannot. not_refused cannot.made cannot.built cannot.is_made cannot.none.list cannot.none.repairable r refused in
       tells_refused files is never_can never_cannot
 
 pub generate_told : (words : GenerateWords) → IsTold (λ files. IsGenerateRefusal words) (λ files. IsSummary words) (TellsGenerate words)

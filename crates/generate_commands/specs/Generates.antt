@@ -33,11 +33,11 @@ use Rattle.generate_commands.specs.Summaries.{given_up_line, made_line, none_lin
 use Rattle.generate_commands.specs.Summaries.{tally_line}
 use Rattle.generate_commands.specs.Tallies.{IsTally}
 
--- the highest price of a repair whose words name none
+-- the bound on the price that `repair` has by default
 abbrev pub default_bound : ℕ
 default_bound = DEFAULT_PRICE
 
--- how many conflicts its search may learn from where they name no number
+-- the limit of conflicts that `repair` has by default
 abbrev pub default_conflicts : ℕ
 default_conflicts = DEFAULT_CONFLICTS
 
@@ -45,24 +45,24 @@ default_conflicts = DEFAULT_CONFLICTS
 abbrev pub document_name : List ℕ
 document_name = codes "net.json"
 
--- the document and the router files of a network of this many routers, and what is built of them
+-- the document and the router files of a network of this many routers, and what is built from them
 pub record IsMadeNetwork (words : GenerateWords) (made : Generated) (built : Built) : Type 0 where
   pub generated : IsGenerated words.number made
   pub is_built : IsBuiltWithin [] EDITED_ENTRY_LIMIT made.doc made.files built
 
--- the certificate of an answer of its repair
+-- the certificate of an answer of the repair
 abbrev pub certificate_of : Network → Document → List Edit → Answer → List ℕ
 certificate_of net doc list (Claimed claim log) = certificate_text net doc list claim log
 certificate_of net doc list (Budget log) = budget_text default_conflicts default_bound log
 
--- the status of this answer
+-- the status of an answer
 abbrev pub status_of : Answer → ℕ
 status_of (Claimed (Repaired price bound flags verdicts) log) = 0
 status_of (Claimed (NoRepair bound) log) = 2
 status_of (Budget log) = 3
 
--- the lines of a repair: its price and how many edits it has, and how many policies the network
--- after these edits meets, breaks and has unclear
+-- the lines of a repair: its price and its number of edits, and how many policies the network after
+-- these edits meets, how many it breaks, and how many are not clear in it
 pub record TellsAfter (net : Network) (doc : Document) (list : List Edit) (price : ℕ)
     (flags : List Bool) (lines : List ℕ) : Type 0 where
   pub after : Network
@@ -79,9 +79,9 @@ TellsAnswer net doc list (Claimed (Repaired price bound flags verdicts) log) lin
 TellsAnswer net doc list (Claimed (NoRepair bound) log) lines = lines ≡ none_line
 TellsAnswer net doc list (Budget log) lines = lines ≡ given_up_line
 
--- The answer: what was made; how many of its policies its network meets, breaks and has unclear;
--- and what its repair came to, which is one of the answers that `repair` gives where its words name
--- neither a bound nor a limit. The certificate is written, and nothing else.
+-- The answer: what was made; how many of its policies the network meets, how many it breaks, and
+-- how many are not clear in it; and the answer of its repair, one of those that `repair` gives by
+-- default. The certificate is written, and nothing else.
 pub record IsSummary (words : GenerateWords) (done : Done) : Type 0 where
   pub made : Generated
   pub built : Built

@@ -8,28 +8,28 @@ use Rattle.arc_repair.specs.declared.answer.Answer.TheVariants.{Done as Claimed,
 use Rattle.generate_commands.specs.declared.tallies.Tally.{Tally}
 use Rattle.generate_commands.specs.Tallies.{tally_of}
 
--- what was made of a number of routers
+-- the line that says what was made with this many routers
 abbrev pub made_line : ℕ → List ℕ
 made_line n =
     line (codes "generated") (decimal n ∷ codes "routers" ∷ decimal (link_count n) ∷ codes "links" ∷
     decimal (n + 1) ∷ codes "policies" ∷ [])
 
--- how many policies are met, broken and not clear
+-- the line of how many policies are met, broken and not clear
 abbrev pub tally_line : List ℕ → Tally → List ℕ
 tally_line word tally =
     line word (codes "yes" ∷ decimal tally.yes ∷ codes "no" ∷ decimal tally.no ∷ codes "refused" ∷
     decimal tally.refused ∷ [])
 
--- what a repair costs, and how many edits it has
+-- the line of what a repair costs, and how many edits it has
 abbrev pub repair_line : ℕ → ℕ → List ℕ
 repair_line price edits =
     line (codes "repair") (codes "price" ∷ decimal price ∷ codes "edits" ∷ decimal edits ∷ [])
 
--- that there is none within the bound
+-- the line that there is no repair within the bound
 abbrev pub none_line : List ℕ
 none_line = codes "repair none\n"
 
--- that the search was given up
+-- the line that the search was given up
 abbrev pub given_up_line : List ℕ
 given_up_line = codes "repair budget\n"
 

@@ -41,7 +41,7 @@ abbrev pub is_refused : Verdict → Bool
 is_refused (Refused p link) = true
 is_refused _ = false
 
--- how many of the verdicts are of each sort
+-- how many of the verdicts are a yes, a no and a refusal
 abbrev pub tally_of : List Verdict → Tally
 tally_of verdicts = record {
   yes = count_by is_yes verdicts;
@@ -49,7 +49,7 @@ tally_of verdicts = record {
   refused = count_by is_refused verdicts;
 }
 
--- and with one verdict more
+-- the tally with one more verdict
 abbrev pub one_more : Tally → Verdict → Tally
 one_more tally v = record {
   yes = tally.yes + cond (is_yes v) 1 0;

@@ -10,7 +10,8 @@ use Rattle.repair_commands.specs.Outcomes.{ShowsNone, ShowsSpent, TellsOutcome}
 use Rattle.generate_commands.specs.Generates.{IsGenerateRefusal, IsMadeNetwork, default_bound}
 use Rattle.generate_commands.specs.Generates.{default_conflicts}
 
--- the cheapest repair of what was made was found; its certificate was written, and nothing else
+-- the cheapest repair of the generated network was found; its certificate was written, and nothing
+-- else
 pub record GeneratesCheapest (words : GenerateWords) (before after : Files) : Type 0 where
   pub made : Generated
   pub built : Built
@@ -19,7 +20,8 @@ pub record GeneratesCheapest (words : GenerateWords) (before after : Files) : Ty
       (after words.proof)
   pub kept : KeepsOthers words.proof before after
 
--- there is no repair of it within the bound; the certificate of this was written, and nothing else
+-- there is no repair of the generated network within the bound; the certificate of this was
+-- written, and nothing else
 pub record GeneratesNone (words : GenerateWords) (before after : Files) : Type 0 where
   pub made : Generated
   pub built : Built
@@ -35,28 +37,28 @@ pub record GeneratesSpentCertificate (words : GenerateWords) (before after : Fil
   pub shown : ShowsSpent default_bound default_conflicts built.net made.doc (after words.proof)
   pub kept : KeepsOthers words.proof before after
 
--- what is made has a repair within the bound
-pub record CanBeRepaired (words : GenerateWords) : Type 0 where
+-- the generated network has a repair within the bound
+pub record GeneratedCanBeRepaired (words : GenerateWords) : Type 0 where
   pub made : Generated
   pub built : Built
   pub is_made : IsMadeNetwork words made built
   pub repair : HasRepair default_bound built.net made.doc
 
--- it has none
-pub record CannotBeRepaired (words : GenerateWords) : Type 0 where
+-- the generated network has no repair within the bound
+pub record GeneratedCannotBeRepaired (words : GenerateWords) : Type 0 where
   pub made : Generated
   pub built : Built
   pub is_made : IsMadeNetwork words made built
   pub none : HasNoRepair default_bound built.net made.doc
 
--- what is made is too large to be repaired
+-- the generated network is too large to be repaired
 pub record IsGenerateRefused (words : GenerateWords) : Type 0 where
   pub refusal : FileRefusal
   pub refused : IsGenerateRefusal words refusal
 
--- what the status says of the files before and after
+-- what the status of `generate` says of the files before and after
 abbrev pub TellsGenerate : GenerateWords → ℕ → Files → Files → Type 0
 TellsGenerate words status before after =
     TellsOutcome (GeneratesCheapest words before after) (GeneratesNone words before after)
     (GeneratesSpentCertificate words before after) (IsGenerateRefused words)
-    (CanBeRepaired words) (CannotBeRepaired words) status before after
+    (GeneratedCanBeRepaired words) (GeneratedCannotBeRepaired words) status before after

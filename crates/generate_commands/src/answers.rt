@@ -1,4 +1,4 @@
-//! What the command prints and writes.
+//! What `generate` prints and writes.
 ghost use Rattle.file_copies.specs.Outputs.{wrote_lines};
 ghost use Rattle.generate_commands.specs.Generates.{certificate_of, status_of};
 ghost use Rattle.generate_commands.specs.Summaries.{answer_lines, made_line, tally_line};
@@ -49,7 +49,7 @@ fn status_of(answer: &Answer) -> u8
     }
 }
 
-/// The lines but the last one.
+/// The lines before those of the written files.
 fn summary(
     alloc: Global,
     words: &GenerateWords,
@@ -67,8 +67,8 @@ fn summary(
     Ok(text)
 }
 
-/// What is printed of the answer, and the certificate that is written. `Memory` also if the
-/// certificate is longer than one may be.
+/// The printed text and the certificate of an answer. `Memory` also if the certificate is longer
+/// than `PROOF_LIMIT` bytes.
 pub fn answer_done(
     alloc: Global,
     words: &GenerateWords,

@@ -29,7 +29,8 @@ use verdicts::judge_all;
 /// What a refusal calls the document, which is no file.
 const DOCUMENT: &[u8] = b"net.json";
 
-/// The network of what was made, as a command that edits files builds it: nothing of it is refused.
+/// Builds the network of the generated files, as a command that edits files does. Nothing of it is
+/// refused.
 fn build(alloc: Global, made: &Generated) -> Result<Built, Memory>
     requires generated { IsSomeGenerated made.now }
     requires count { length made.now.files ≡ length made.now.doc.routers }
@@ -49,9 +50,9 @@ fn build(alloc: Global, made: &Generated) -> Result<Built, Memory>
     }
 }
 
-/// Makes the network of this many routers, judges its policies, and repairs it with the highest
-/// price and the most conflicts that `repair` uses where none are named. It reads nothing, and
-/// writes only the certificate. The time is that of the search.
+/// Makes the network of this many routers, judges its policies, and repairs it with the default
+/// bounds of `repair` on price and conflicts. It reads nothing, and writes only the certificate.
+/// Most of its time goes into the search.
 pub fn generate<L: Listener>(
     alloc: Global,
     words: &GenerateWords,

@@ -1,6 +1,6 @@
 //! The command `generate`: it makes a network from its number of routers, judges its policies,
-//! repairs it as `repair` does whose words name no bound, and writes the certificate. Its spec
-//! files have the answer, and what the status says.
+//! repairs it as `repair` does by default, and writes the certificate. Its spec files have the
+//! answer, and what the status says.
 #![tactic(auto)]
 
 mod answers;

@@ -14,7 +14,7 @@ use net_model::Verdict;
 use policy_report::{push_count, push_word};
 use std::alloc::Global;
 
-/// A word and a number.
+/// Appends a word and a number, each after a space.
 fn push_field(alloc: Global, text: &mut Vec<u8>, word: &[u8], count: u64) -> Result<(), Memory>
     ensures { OnOk result
         (text.new.items ≡ text.old.items ++ after_spaces (word.now ∷ decimal count ∷ [])) }
@@ -23,7 +23,7 @@ fn push_field(alloc: Global, text: &mut Vec<u8>, word: &[u8], count: u64) -> Res
     push_count(alloc, text, count)
 }
 
-/// The line that says what was made.
+/// Appends the line that says what was made.
 pub fn push_made(alloc: Global, text: &mut Vec<u8>, number: u32) -> Result<(), Memory>
     requires { number ≤ MOST_GENERATED }
     ensures { OnOk result (text.new.items ≡ text.old.items ++ made_line number) }
@@ -38,7 +38,7 @@ pub fn push_made(alloc: Global, text: &mut Vec<u8>, number: u32) -> Result<(), M
     Ok(())
 }
 
-/// The line of a tally, which begins with this word.
+/// Appends the line of a tally, which begins with this word.
 pub fn push_tally(
     alloc: Global,
     text: &mut Vec<u8>,
@@ -68,7 +68,7 @@ fn flags_set(flags: &[bool]) -> u64
     count
 }
 
-/// A line with a price and a number of edits, which begins with this word.
+/// Appends a line with a price and a number of edits, which begins with this word.
 fn push_cost(
     alloc: Global,
     text: &mut Vec<u8>,
@@ -86,7 +86,7 @@ fn push_cost(
     Ok(())
 }
 
-/// The line of a repair.
+/// Appends the line of a repair.
 fn push_repair(alloc: Global, text: &mut Vec<u8>, price: u32, chosen: &[bool]) -> Result<(), Memory>
     ensures { OnOk result
         (text.new.items ≡ text.old.items ++ repair_line price (flags_set chosen.now)) }
@@ -95,7 +95,7 @@ fn push_repair(alloc: Global, text: &mut Vec<u8>, price: u32, chosen: &[bool]) -
     push_cost(alloc, text, b"repair", u64::from(price), edits)
 }
 
-/// The line of a repair, and how many policies have each verdict after it.
+/// Appends the line of a repair, and that of the verdicts after it.
 fn push_after(
     alloc: Global,
     text: &mut Vec<u8>,
@@ -111,7 +111,7 @@ fn push_after(
     push_tally(alloc, text, b"after", counted(verdicts))
 }
 
-/// The lines of what a repair came to. The verdicts of its claim are those in the network after the
+/// Appends the lines of the answer. The verdicts of its claim are those in the network after the
 /// edits.
 pub fn push_answer(alloc: Global, text: &mut Vec<u8>, answer: &Answer) -> Result<(), Memory>
     ensures { OnOk result (text.new.items ≡ text.old.items ++ answer_lines answer.now) }

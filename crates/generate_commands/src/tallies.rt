@@ -13,7 +13,7 @@ pub struct Tally {
 }
 
 impl Tally {
-    /// The tally with one verdict more.
+    /// The tally with one more verdict.
     fn with(self, verdict: &Verdict) -> Tally
         requires yes { self.yes + 1 < 2 ^ 64 }
         requires no { self.no + 1 < 2 ^ 64 }

@@ -72,9 +72,11 @@ open-last : (count : ℕ) (start : _) (block : ℕ) (lines : List (List ℕ)) (l
 open-last count start block [] line = ap (λ n. block_after (kind_within start line) n block) (omega arith)
 open-last count start block (l ∷ lines) line =
     open-last (count + 1) (after_line start l) (block_after (kind_within start l) (count + 1) block) lines line
-    ∙ ap (λ n. block_after (kind_within (fold after_line (after_line start l) lines) line) n (open_from (count + 1) (after_line start l) (block_after (kind_within start l) (count + 1) block) lines)) (omega arith)
+    ∙ ap (λ n. block_after (kind_within (fold after_line (after_line start l) lines) line) n
+    (open_from (count + 1) (after_line start l) (block_after (kind_within start l) (count + 1) block) lines)) (omega arith)
 
-block-last : (lines : List (List ℕ)) (line : List ℕ) (block : ℕ) → open_banner lines ≡ None → open_block lines ≡ block → open_block (lines ++ line ∷ []) ≡ block_after (kind line) (length lines + 1) block
+block-last : (lines : List (List ℕ)) (line : List ℕ) (block : ℕ) → open_banner lines ≡ None → open_block lines ≡ block →
+    open_block (lines ++ line ∷ []) ≡ block_after (kind line) (length lines + 1) block
 block-last lines line block none is =
     open-last 0 None 0 lines line
     ∙ ap (λ b. block_after (kind_within b line) (0 + length lines + 1) (open_block lines)) none
@@ -101,7 +103,8 @@ module _ (lines : List (List ℕ)) (cs : List FileCommand) (block : ℕ) (r : Ar
   plain-now plain = AllByRecursion-append IsPlain lines (line ∷ []) r.plain (plain, tt)
 
   one-more : (c : FileCommand) → AreCommandsIn (inserted (length lines) line lines) (with_command (length lines) c cs) → AreCommandsIn (lines ++ line ∷ []) (cs ++ c ∷ [])
-  one-more c are = subst (λ ls. AreCommandsIn ls (cs ++ c ∷ [])) (inserted-last lines line) (subst (λ ds. AreCommandsIn (inserted (length lines) line lines) ds) (with-last (length lines) c cs r.low) are)
+  one-more c are = subst (λ ls. AreCommandsIn ls (cs ++ c ∷ [])) (inserted-last lines line)
+      (subst (λ ds. AreCommandsIn (inserted (length lines) line lines) ds) (with-last (length lines) c cs r.low) are)
 
   may : (k : IsHead line ⊎ (IsSingle line ⊎ IsClosing line)) → MayStandAt lines (length lines) line
   may k = top-may lines (length lines) line (omega arith) outside (λ (below : length lines < length lines). absurd (omega arith)) k
@@ -141,7 +144,8 @@ module _ (lines : List (List ℕ)) (cs : List FileCommand) (block : ℕ) (r : Ar
       }
 
   -- a line in the block that is open
-  pub inner-more : (within : BlockKind) (command : Command) (head : FileCommand) → IsWithin within line command → block ≢ 0 → Contains cs head → head.line ≡ block → opened_by head.command ≡ within → within ≢ kinds.Inert →
+  pub inner-more : (within : BlockKind) (command : Command) (head : FileCommand) → IsWithin within line command → block ≢ 0 → Contains cs head →
+      head.line ≡ block → opened_by head.command ≡ within → within ≢ kinds.Inert →
       AreRead (lines ++ line ∷ []) (cs ++ command_at (length lines + 1) block command ∷ []) block
   inner-more within command head w some among head-line opens known =
       let here : open_block (take (length lines) lines) ≡ block = ap open_block whole-front ∙ r.inside in

@@ -97,7 +97,8 @@ host-place n doc net router rows some few links low high =
     let place = at_Contains (sites (all_settings n)) site there in
     let row = AllZip-right (IsFaceRow net.protocol (ends_of doc.links) (map packet_list_key net.packet_lists)) (sites (all_settings n)) net.faces rows.base.faces place.0 site place.1 in
     let ospf : net.protocol ≡ Ospf = rows.base.protocol ∙ protocol-is n (omega arith) in
-    let subnet : IsSubnet (host_address_of net.protocol (host_face router)) row.0.host = row.2.host.elsewhere (λ end. no-end n router few (subst (λ (ls : List LinkText). Contains (ends_of ls) (full_name site)) links end)) in
+    let subnet : IsSubnet (host_address_of net.protocol (host_face router)) row.0.host =
+    row.2.host.elsewhere (λ end. no-end n router few (subst (λ (ls : List LinkText). Contains (ends_of ls) (full_name site)) links end)) in
     record {
       place = place.0;
       at_site = place.1;
@@ -135,7 +136,14 @@ endpoint-clear n doc some few links policies r refused =
     let one : site_at n a.source (host_face a.source) ≡ site_at n a.target (host_face a.target) = same_Some _ _ (sym source.at_site ∙ ap (slice_get (sites (all_settings n))) same ∙ target.at_site) in
     let routers : a.source - 1 ≡ a.target - 1 = ap (λ (s : Site). s.router) one in
     between.apart (omega arith) in
-    bad.offends (record { source = source.place; target = target.place; from = host-of n net a.source bad.item.from source ask.2.from; to = host-of n net a.target bad.item.to target ask.2.to; apart = apart })
+    bad.offends (record {
+      source = source.place;
+      target = target.place;
+      from = host-of n net a.source bad.item.from source ask.2.from;
+      to =
+          host-of n net a.target bad.item.to target ask.2.to;
+      apart = apart;
+    })
   where
     item-at : {X : Type 0} (xs : List X) (k : ℕ) (x : X) → slice_get xs k ≡ Some x → Contains xs x
     item-at xs k x at = Contains-at xs k x at

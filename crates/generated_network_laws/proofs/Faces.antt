@@ -39,7 +39,8 @@ pub record HasSite (n : ℕ) (site : Site) : Type 0 where
   pub config : site.config ≡ settings_of n router
   pub face : (site.face ≡ host_face router) ⊎ IsOverLink n router site.face
 
-faces-over : (n router at : ℕ) (links : List ℕ) (face : FaceText) → Contains (link_faces n router at links) face → (link : ℕ) × Contains links link × (there : ℕ) × (face ≡ link_face n router there link)
+faces-over : (n router at : ℕ) (links : List ℕ) (face : FaceText) → Contains (link_faces n router at links) face →
+    (link : ℕ) × Contains links link × (there : ℕ) × (face ≡ link_face n router there link)
 faces-over n router at [] face there = absurd (items.Contains-none face there)
 faces-over n router at (link ∷ links) face there = elim (items.Contains-cases (link_face n router at link) face (link_faces n router (at + 3) links) there) [
   | inl here ↦ (link, items.Contains-head link links, at, sym here)
@@ -49,8 +50,13 @@ faces-over n router at (link ∷ links) face there = elim (items.Contains-cases 
 pub over-has : (n router at : ℕ) (links : List ℕ) (link : ℕ) → Contains links link → (there : ℕ) × Contains (link_faces n router at links) (link_face n router there link)
 over-has n router at [] link there = absurd (items.Contains-none link there)
 over-has n router at (other ∷ links) link there = elim (items.Contains-cases other link links there) [
-  | inl here ↦ (at, subst (λ l. Contains (link_faces n router at (other ∷ links)) (link_face n router at l)) here (items.Contains-head (link_face n router at other) (link_faces n router (at + 3) links)))
-  | inr later ↦ let deeper = over-has n router (at + 3) links link later in (deeper.0, items.Contains-tail (link_face n router at other) (link_face n router deeper.0 link) (link_faces n router (at + 3) links) deeper.1)
+  | inl here ↦ (
+    at,
+    subst (λ l. Contains (link_faces n router at (other ∷ links)) (link_face n router at l)) here
+        (items.Contains-head (link_face n router at other) (link_faces n router (at + 3) links)),
+  )
+  | inr later ↦ let deeper = over-has n router (at + 3) links link
+      later in (deeper.0, items.Contains-tail (link_face n router at other) (link_face n router deeper.0 link) (link_faces n router (at + 3) links) deeper.1)
 ]
 
 pub of-links : (n router link : ℕ) → Contains (links_of n router) link → (1 ≤ link) × (link ≤ link_count n) × (has_end n router link ≡ true)
@@ -122,7 +128,8 @@ end_name n router link = (host_name router, face_name (port n router link))
 pub has-end-name : (n router link : ℕ) → 1 ≤ router → router ≤ n → 1 ≤ link → link ≤ link_count n → has_end n router link ≡ true → Contains (full_names (all_settings n)) (end_name n router link)
 has-end-name n router link low high some most has =
     let over = over-has n router 5 (links_of n router) link (in-links n router link some most has) in
-    let there = has-site n router (link_face n router over.0 link) low high (items.Contains-tail (host_face router) (link_face n router over.0 link) (link_faces n router 5 (links_of n router)) over.1) in
+    let there = has-site n router (link_face n router over.0 link) low high
+    (items.Contains-tail (host_face router) (link_face n router over.0 link) (link_faces n router 5 (links_of n router)) over.1) in
     items.Contains-map full_name (sites (all_settings n)) (site_at n router (link_face n router over.0 link)) there
 
 pub name-of : (n : ℕ) (site : Site) (h : HasSite n site) → full_name site ≡ (host_name h.router, site.face.name)
@@ -135,7 +142,8 @@ pub record IsLinkSite (n router link : ℕ) (site : Site) : Type 0 where
   pub is : site.face ≡ link_face n router at link
 
 -- an interface with the name of one over a link is that one
-pub link-site : (n router link : ℕ) (site : Site) → n ≤ 40 → HasSite n site → router ≤ n → 1 ≤ link → link ≤ link_count n → has_end n router link ≡ true → full_name site ≡ end_name n router link → IsLinkSite n router link site
+pub link-site : (n router link : ℕ) (site : Site) → n ≤ 40 → HasSite n site → router ≤ n → 1 ≤ link → link ≤ link_count n → has_end n router link ≡ true →
+    full_name site ≡ end_name n router link → IsLinkSite n router link site
 link-site n router link site few h high some most has named =
     let both : (host_name h.router, site.face.name) ≡ end_name n router link = sym (name-of n site h) ∙ named in
     let own-high : h.router ≤ n = h.high in
@@ -182,7 +190,8 @@ faces-apart : (n router : ℕ) → n ≤ 40 → AllPairs NamedApart (settings_of
 faces-apart n router few =
     let rise = ports-rise n router few in
     let rest = link_faces n router 5 (links_of n router) in
-    AllPairs-cons NamedApart (host_face router) rest (All-from_recursion (NamedApart (host_face router)) rest (names-above n router 0 5 (links_of n router) (omega arith) (all-above n router 0 0 (links_of n router) (omega arith) rise)))
+    AllPairs-cons NamedApart (host_face router) rest
+    (All-from_recursion (NamedApart (host_face router)) rest (names-above n router 0 5 (links_of n router) (omega arith) (all-above n router 0 0 (links_of n router) (omega arith) rise)))
     (links-apart n router 0 5 (links_of n router) rise)
 
 pub hosts-apart : (n : ℕ) → n ≤ 40 → AllPairs (λ (f g : Config). build.host_name f ≡ build.host_name g → ⊥) (all_settings n)
@@ -197,7 +206,8 @@ hosts-apart n few =
 pub names-apart : (n : ℕ) → n ≤ 40 → AreDistinct (full_names (all_settings n))
 names-apart n few =
     full_names_distinct (all_settings n) (hosts-apart n few)
-    (All-map (λ (c : Config). AllPairs NamedApart c.faces) (settings_of n) (numbers n) (items.All-from (λ (r : ℕ). AllPairs NamedApart (settings_of n r).faces) (numbers n) (λ router there. faces-apart n router few)))
+    (All-map (λ (c : Config). AllPairs NamedApart c.faces) (settings_of n) (numbers n)
+    (items.All-from (λ (r : ℕ). AllPairs NamedApart (settings_of n r).faces) (numbers n) (λ router there. faces-apart n router few)))
 
 -- interfaces with one name are at one place
 pub one-site : (n i j : ℕ) (s t : Site) → n ≤ 40 → slice_get (sites (all_settings n)) i ≡ Some s → slice_get (sites (all_settings n)) j ≡ Some t → full_name s ≡ full_name t → i ≡ j

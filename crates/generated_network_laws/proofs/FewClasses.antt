@@ -1,5 +1,6 @@
 -- A generated network's document has one class for each of its policies.
-use Rattle.std.proofs.Common.{◌≡◌, ℕ, zero, suc, ◌+◌, ◌*◌, ◌<◌, ◌≤◌, inl, inr, ◌-◌, ◌^◌, Bool, true, false, cond, List, [], ◌∷◌, ◌++◌, length, take, drop, map, fold, sym, ap, subst, ◌∙◌, arith, Contains, take-append-drop, length-append}
+use Rattle.std.proofs.Common.{◌≡◌, ℕ, zero, suc, ◌+◌, ◌*◌, ◌<◌, ◌≤◌, inl, inr, ◌-◌, ◌^◌, Bool, true, false, cond}
+use Rattle.std.proofs.Common.{List, [], ◌∷◌, ◌++◌, length, take, drop, map, fold, sym, ap, subst, ◌∙◌, arith, Contains, take-append-drop, length-append}
 use Rattle.std.specs.List.{AllZip, flat_map, list_any}
 use Rattle.std.proofs.Math.Nat.{min-le_left}
 use Rattle.std.proofs.lemmas.List.Elements.{Contains-append_left}
@@ -89,7 +90,8 @@ at-most-one zero y low few = omega arith
 at-most-one (suc zero) y low few = omega arith
 at-most-one (suc (suc x)) y low few = absurd (omega arith)
 
-pub one-class : (net : Network) (policies : List Policy) (p : Policy) (classes : List Class) → net.packet_lists ≡ [] → AreEven policies → Contains policies p → AreClasses net policies p classes → length classes ≤ 1
+pub one-class : (net : Network) (policies : List Policy) (p : Policy) (classes : List Class) → net.packet_lists ≡ [] → AreEven policies → Contains policies p →
+    AreClasses net policies p classes → length classes ≤ 1
 one-class net policies p classes none even there are =
     let sources = one-leaf (source_marks net policies) p.from are.sources (even-from net policies p none even there) are.sources_are in
     let targets = one-leaf (destination_marks net policies) p.to are.destinations (even-to net policies p none even there) are.destinations_are in
@@ -110,7 +112,8 @@ few-fold : (cs start : List Class) → length (fold with_class start cs) ≤ len
 few-fold [] start = omega arith
 few-fold (c ∷ cs) start = let deeper = few-fold cs (with_class start c) in let one = few-with start c in omega arith
 
-few-lists : (net : Network) (policies some : List Policy) (lists : List (List Class)) → net.packet_lists ≡ [] → AreEven policies → ((p : Policy) → Contains some p → Contains policies p) → AllZip (AreClasses net policies) some lists →
+few-lists : (net : Network) (policies some : List Policy) (lists : List (List Class)) → net.packet_lists ≡ [] → AreEven policies →
+    ((p : Policy) → Contains some p → Contains policies p) → AllZip (AreClasses net policies) some lists →
     length (flat_map (λ (l : List Class). l) lists) ≤ length some
 few-lists net policies [] [] none even among zip = omega arith
 few-lists net policies [] (l ∷ lists) none even among zip = absurd zip
@@ -121,7 +124,8 @@ few-lists net policies (p ∷ some) (l ∷ lists) none even among zip =
     let long = length-append l (flat_map (λ (x : List Class). x) lists) in
     omega arith
 
-pub few-classes : (net : Network) (policies some : List Policy) (classes : List Class) → net.packet_lists ≡ [] → AreEven policies → ((p : Policy) → Contains some p → Contains policies p) → AreAllClasses net policies some classes → length classes ≤ length some
+pub few-classes : (net : Network) (policies some : List Policy) (classes : List Class) → net.packet_lists ≡ [] → AreEven policies →
+    ((p : Policy) → Contains some p → Contains policies p) → AreAllClasses net policies some classes → length classes ≤ length some
 few-classes net policies some classes none even among all =
     let lists = few-lists net policies some all.lists none even among all.are in
     let once : length (each_once (flat_map (λ (l : List Class). l) all.lists)) ≤ 0 + length (flat_map (λ (l : List Class). l) all.lists) = few-fold (flat_map (λ (l : List Class). l) all.lists) [] in

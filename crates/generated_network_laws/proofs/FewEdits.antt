@@ -53,7 +53,8 @@ few-sites n a (suc m) i some =
 
 few-faces : (n : ℕ) (doc : Document) (net : Network) → AreRows doc (all_settings n) net → 2 ≤ n → length net.faces ≤ 4 * n
 few-faces n doc net rows some =
-    let zipped : length (sites (all_settings n)) ≡ length net.faces = AllZip-length (IsFaceRow net.protocol (ends_of doc.links) (map packet_list_key net.packet_lists)) (sites (all_settings n)) net.faces rows.base.faces in
+    let zipped : length (sites (all_settings n)) ≡ length net.faces =
+    AllZip-length (IsFaceRow net.protocol (ends_of doc.links) (map packet_list_key net.packet_lists)) (sites (all_settings n)) net.faces rows.base.faces in
     let all : length (sites (all_settings n)) ≤ 4 * n = few-sites n 1 n 0 some in
     omega arith
 
@@ -71,7 +72,8 @@ few-at-links net (link ∷ links) =
     let b = one-at net link.b in
     let both : length (link_edits net link) ≡ length (edits_at net link.a) + length (edits_at net link.b) = length-append (edits_at net link.a) (edits_at net link.b) in
     let deeper = few-at-links net links in
-    let long : length (link_edits net link ++ flat_map (link_edits net) links) ≡ length (link_edits net link) + length (flat_map (link_edits net) links) = length-append (link_edits net link) (flat_map (link_edits net) links) in
+    let long : length (link_edits net link ++ flat_map (link_edits net) links) ≡ length (link_edits net link) + length (flat_map (link_edits net) links) =
+    length-append (link_edits net link) (flat_map (link_edits net) links) in
     omega arith
 
 -- no list and no session, so no site of routes; and packets have no more sites than interfaces
@@ -81,7 +83,8 @@ no-routes net no-lists no-sessions =
     let all = few_by_number (length net.routers) things in
     let one : length (map route_list_site (placed net.route_lists)) ≡ 0 = ap (λ (ls : List RouteList). length (map route_list_site (placed ls))) no-lists in
     let two : length (filter_map (neighbor_site net) net.sessions) ≡ 0 = ap (λ (ss : List SessionRow). length (filter_map (neighbor_site net) ss)) no-sessions in
-    let long : length things ≡ length (map route_list_site (placed net.route_lists)) + length (filter_map (neighbor_site net) net.sessions) = length-append (map route_list_site (placed net.route_lists)) (filter_map (neighbor_site net) net.sessions) in
+    let long : length things ≡ length (map route_list_site (placed net.route_lists)) + length (filter_map (neighbor_site net) net.sessions) =
+    length-append (map route_list_site (placed net.route_lists)) (filter_map (neighbor_site net) net.sessions) in
     omega arith
 
 few-packets : (net : Network) → net.packet_lists ≡ [] → length (packet_sites net) ≤ length net.faces
@@ -99,7 +102,8 @@ none-times : (x y : ℕ) → x ≤ 0 → x * y ≡ 0
 none-times zero y low = omega arith
 none-times (suc x) y low = absurd (omega arith)
 
-few-edits : (n : ℕ) (doc : Document) (net : Network) (list : List Edit) → 2 ≤ n → n ≤ 40 → length net.faces ≤ 4 * n → length net.links ≤ 60 → net.packet_lists ≡ [] → net.route_lists ≡ [] → net.sessions ≡ [] →
+few-edits : (n : ℕ) (doc : Document) (net : Network) (list : List Edit) → 2 ≤ n → n ≤ 40 → length net.faces ≤ 4 * n → length net.links ≤ 60 →
+    net.packet_lists ≡ [] → net.route_lists ≡ [] → net.sessions ≡ [] →
     ((classes : List Class) → AreAllClasses net doc.policies doc.policies classes → length classes ≤ n + 1) → AreEdits net doc list → length list ≤ 8192
 few-edits n doc net list some few faces links no-packets no-lists no-sessions classes are =
     let s = length (flat_map (link_edits net) net.links) in
@@ -126,7 +130,8 @@ even doc n asks = record {
   service = λ p there. let at = at_Contains doc.policies p there in let ask = AllZip-left Asks (asked n) doc.policies asks at.0 p at.1 in ask.2.service;
 }
 
-no-limit : (n : ℕ) (net : Network) (doc : Document) → n ≤ 40 → ((count : ℕ) → FirstHaveMore net doc.policies count → count ≤ n + 1) → ((list : List Edit) → AreEdits net doc list → length list ≤ 8192) → (fault : EditFault) → NamesLimit net doc fault → fault ≡ Memory
+no-limit : (n : ℕ) (net : Network) (doc : Document) → n ≤ 40 → ((count : ℕ) → FirstHaveMore net doc.policies count → count ≤ n + 1) →
+    ((list : List Edit) → AreEdits net doc list → length list ≤ 8192) → (fault : EditFault) → NamesLimit net doc fault → fault ≡ Memory
 no-limit n net doc few classes edits Memory names = refl
 no-limit n net doc few classes edits (Limit limits.Classes count) names = let most = classes count names.0 in let more : 4096 < count = names.1 in absurd (omega arith)
 no-limit n net doc few classes edits (Limit limits.Edits count) names =
@@ -154,7 +159,8 @@ few-of-all n most generated net g is =
     let edits : (list : List Edit) → AreEdits net doc list → length list ≤ 8192 =
     λ list are. few-edits n doc net list (omega arith) few (few-faces n doc net rows (omega arith)) links plan.packet_lists plan.route_lists plan.sessions classes are in
     record {
-      one_class = λ policy count there has. let one = one-class net doc.policies policy has.classes plan.packet_lists evens there has.are in let most : count ≤ length has.classes = told-few (length has.classes) count has.counted in omega arith;
+      one_class = λ policy count there has. let one = one-class net doc.policies policy has.classes plan.packet_lists evens there has.are in let most : count ≤ length has.classes =
+          told-few (length has.classes) count has.counted in omega arith;
       classes = classes;
       first_classes = first;
       edits = edits;

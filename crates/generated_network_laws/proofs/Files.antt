@@ -1,5 +1,6 @@
 -- The commands of a generated file, line by line.
-use Rattle.std.proofs.Common.{◌≡◌, ℕ, suc, ◌+◌, ◌*◌, ◌^◌, ◌<◌, ◌≤◌, ◌==◌, Bool, true, false, List, [], ◌∷◌, ◌++◌, length, codes, refl, sym, ap, subst, ◌∙◌, arith, if◌then◌else◌, append-nil, append_assoc}
+use Rattle.std.proofs.Common.{◌≡◌, ℕ, suc, ◌+◌, ◌*◌, ◌^◌, ◌<◌, ◌≤◌, ◌==◌, Bool, true, false, List}
+use Rattle.std.proofs.Common.{[], ◌∷◌, ◌++◌, length, codes, refl, sym, ap, subst, ◌∙◌, arith, if◌then◌else◌, append-nil, append_assoc}
 use Rattle.std.specs.List.{AllByRecursion, flat_map}
 use Rattle.std.proofs.lemmas.List.{length_push}
 use Rattle.std.proofs.lemmas.List.Elements.{Contains-push}
@@ -66,12 +67,14 @@ push-two xs a b = simp append_assoc
 
 module _ (lines : List (List ℕ)) (cs : List FileCommand) (block : ℕ) (r : AreRead lines cs block) where
   -- the lines of an interface
-  face-more : (number addr len : ℕ) → number < 64 → addr < 2 ^ 32 → 1 ≤ len → len ≤ 32 → AreRead (lines ++ face_lines number addr len) (cs ++ face_commands (length lines) (face_name number) addr len) 0
+  face-more : (number addr len : ℕ) → number < 64 → addr < 2 ^ 32 → 1 ≤ len → len ≤ 32 →
+      AreRead (lines ++ face_lines number addr len) (cs ++ face_commands (length lines) (face_name number) addr len) 0
   face-more number addr len few small some most =
       let at = length lines in
       let head = command_at (at + 1) (at + 1) (commands.Interface (face_name number)) in
       let one = head-more lines cs block r (face_line number) (commands.Interface (face_name number)) (face-read number few) in
-      let two = inner-more (lines ++ face_line number ∷ []) (cs ++ head ∷ []) (at + 1) one (address_line addr len) blocks.Interface (commands.Address addr len) head (address-read addr len small some most)
+      let two = inner-more (lines ++ face_line number ∷ []) (cs ++ head ∷ []) (at + 1) one (address_line addr len) blocks.Interface (commands.Address addr len) head
+      (address-read addr len small some most)
       (λ (none : at + 1 ≡ 0). absurd (omega arith)) (Contains-push cs head) refl refl (λ (other : blocks.Interface ≡ blocks.Inert). absurd cc) in
       let next = command_at (length (lines ++ face_line number ∷ []) + 1) (at + 1) (commands.Address addr len) in
       let three = closing-more ((lines ++ face_line number ∷ []) ++ address_line addr len ∷ []) ((cs ++ head ∷ []) ++ next ∷ []) (at + 1) two (codes "!") mark-plain closing-line.kind in

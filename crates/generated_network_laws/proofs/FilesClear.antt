@@ -17,7 +17,8 @@ use Rattle.net_rules.specs.Limits.{RefusesInterfaces, RefusesEntries, long_list}
 use Rattle.net_rules.specs.Linking.{RefusesDownLinks, HasTypeAt, RefusesAdjacencyForm}
 use Rattle.net_rules.specs.Peers.{RefusesNeighbor, RefusesNetwork, NamesOther, IsKnown, TellsUnconnected}
 use Rattle.net_rules.specs.Reasons.{IsClear}
-use Rattle.net_rules.specs.Routers.{NamesRouter, HasNoOwnName, RefusesHostname, protocol_of, NamesOtherProcess, RunsOther, MixesProcesses, HasNoOwnProcess, RefusesProtocol, face_area, areas_of, IsOther, NamesOtherArea, RefusesTwoAreas, Repeats, as_of, RefusesSameAs}
+use Rattle.net_rules.specs.Routers.{NamesRouter, HasNoOwnName, RefusesHostname, protocol_of, NamesOtherProcess, RunsOther, MixesProcesses, HasNoOwnProcess}
+use Rattle.net_rules.specs.Routers.{RefusesProtocol, face_area, areas_of, IsOther, NamesOtherArea, RefusesTwoAreas, Repeats, as_of, RefusesSameAs}
 use Rattle.net_rules.specs.Linking.{router_id_of}
 use Rattle.net_rules.specs.Settings.{lines_of, is_point_to_point}
 use Rattle.net_rules.specs.Sites.{Site, sites}
@@ -71,7 +72,8 @@ hostname-clear n few r refused =
     let place = refused.place in
     let at = mapped-at (settings_of n) 1 n place refused.item refused.at_place in
     let low : place < n = at.0 in
-    let offends : HasNoOwnName (all_settings n) place (settings_of n (1 + place)) refused.number = subst (λ (c : Config). HasNoOwnName (all_settings n) place c refused.number) (sym at.1) refused.offends in
+    let offends : HasNoOwnName (all_settings n) place (settings_of n (1 + place)) refused.number =
+    subst (λ (c : Config). HasNoOwnName (all_settings n) place c refused.number) (sym at.1) refused.offends in
     let other = of-any (NamesRouter (host_name (1 + place))) (take place (all_settings n)) offends.1 in
     let before = earlier n place other.0 (omega arith) other.1 in
     let early : before.0 < 1 + place = before.1 in
@@ -89,7 +91,8 @@ protocol-clear n some r refused =
     let at = mapped-at (settings_of n) 1 n place refused.item refused.at_place in
     let router = 1 + place in
     let process = process_at (5 + 3 * length (links_of n router)) in
-    let offends : HasNoOwnProcess (all_settings n) place (settings_of n router) refused.number = subst (λ (c : Config). HasNoOwnProcess (all_settings n) place c refused.number) (sym at.1) refused.offends in
+    let offends : HasNoOwnProcess (all_settings n) place (settings_of n router) refused.number =
+    subst (λ (c : Config). HasNoOwnProcess (all_settings n) place c refused.number) (sym at.1) refused.offends in
     let mixed : MixesProcesses (protocol_of (all_settings n)) (settings_of n router) process refused.number = offends in
     elim mixed [
       | inl second ↦ absurd second
@@ -118,7 +121,8 @@ all-zero n router g there =
 pub areas-clear : (n : ℕ) → IsClear (RefusesTwoAreas (all_settings n))
 areas-clear n r refused =
     let at = mapped-at (settings_of n) 1 n refused.place refused.item refused.at_place in
-    let offends : NamesOtherArea (all_settings n) (settings_of n (1 + refused.place)) refused.number = subst (λ (c : Config). NamesOtherArea (all_settings n) c refused.number) (sym at.1) refused.offends in
+    let offends : NamesOtherArea (all_settings n) (settings_of n (1 + refused.place)) refused.number =
+    subst (λ (c : Config). NamesOtherArea (all_settings n) c refused.number) (sym at.1) refused.offends in
     let is_first = offends.is_first in
     let first = mapped-at (settings_of n) 1 n is_first.place is_first.config is_first.at_place in
     let zero-first : is_first.given.value ≡ 0 = all-zero n (1 + is_first.place) is_first.given (subst (λ (c : Config). Contains (areas_of c) is_first.given) (sym first.1) is_first.named) in
@@ -129,7 +133,8 @@ areas-clear n r refused =
 pub as-clear : (n : ℕ) → IsClear (RefusesSameAs (all_settings n))
 as-clear n r refused =
     let at = mapped-at (settings_of n) 1 n refused.place refused.item refused.at_place in
-    let offends : Repeats as_of (all_settings n) refused.place (settings_of n (1 + refused.place)) refused.number = subst (λ (c : Config). Repeats as_of (all_settings n) refused.place c refused.number) (sym at.1) refused.offends in
+    let offends : Repeats as_of (all_settings n) refused.place (settings_of n (1 + refused.place)) refused.number =
+    subst (λ (c : Config). Repeats as_of (all_settings n) refused.place c refused.number) (sym at.1) refused.offends in
     absurd offends
 
 pub down-clear : (doc : Document) → IsClear (RefusesDownLinks doc [])
@@ -197,6 +202,7 @@ adjacency-clear n doc r refused = elim refused [
   ]
   | inr ids ↦
       let at = mapped-at (settings_of n) 1 n ids.place ids.item ids.at_place in
-      let offends : Repeats router_id_of (all_settings n) ids.place (settings_of n (1 + ids.place)) ids.number = subst (λ (c : Config). Repeats router_id_of (all_settings n) ids.place c ids.number) (sym at.1) ids.offends in
+      let offends : Repeats router_id_of (all_settings n) ids.place (settings_of n (1 + ids.place)) ids.number =
+      subst (λ (c : Config). Repeats router_id_of (all_settings n) ids.place c ids.number) (sym at.1) ids.offends in
       absurd offends
 ]

@@ -36,7 +36,8 @@ IsTop Is line command = IsLine blocks.Top Is line command
 abbrev pub IsWithin : BlockKind → List ℕ → Command → Type 0
 IsWithin within line command = IsLine within IsInner line command
 
-line-is : (within : BlockKind) (Is : List ℕ → Type 0) (line : List ℕ) (ws : List (List ℕ)) (command : Command) → IsWritten line ws → Is line → ReadBy (is_extended_block within) ws (rows within) command → IsLine within Is line command
+line-is : (within : BlockKind) (Is : List ℕ → Type 0) (line : List ℕ) (ws : List (List ℕ)) (command : Command) → IsWritten line ws → Is line →
+    ReadBy (is_extended_block within) ws (rows within) command → IsLine within Is line command
 line-is within Is line ws command written kind reads = record {
   plain = record { free = written.free; no_return = written.no_return };
   kind = kind;

@@ -36,7 +36,8 @@ abbrev pub all_links : ℕ → List LinkText
 all_links n = map (link_text n) (numbers (link_count n))
 
 -- interfaces over links with one name are one
-end-one : (n x k router link : ℕ) → n ≤ 40 → x ≤ n → router ≤ n → k ≤ link_count n → link ≤ link_count n → has_end n x k ≡ true → has_end n router link ≡ true → end_name n x k ≡ end_name n router link → k ≡ link
+end-one : (n x k router link : ℕ) → n ≤ 40 → x ≤ n → router ≤ n → k ≤ link_count n → link ≤ link_count n → has_end n x k ≡ true → has_end n router link ≡ true →
+    end_name n x k ≡ end_name n router link → k ≡ link
 end-one n x k router link few x-high high k-most most x-has has same =
     let count = count-few n few in
     let own : x ≡ router = host-name-one x router (omega arith) (omega arith) (ap (λ (e : _ × _). e.0) same) in
@@ -46,9 +47,11 @@ end-one n x k router link few x-high high k-most most x-has has same =
     port-one n router k link (subst (λ r. has_end n r k ≡ true) own x-has) has (subst (λ r. port n r k ≡ port n router link) own ports)
 
 -- the names at the ends of earlier links
-pub earlier-end : (n place : ℕ) (name : _) → place ≤ link_count n → Contains (ends_of (take place (all_links n))) name → (k : ℕ) × (1 ≤ k) × (k < 1 + place) × ((end_name n (a_router n k) k ≡ name) ⊎ (end_name n (b_router n k) k ≡ name))
+pub earlier-end : (n place : ℕ) (name : _) → place ≤ link_count n → Contains (ends_of (take place (all_links n))) name →
+    (k : ℕ) × (1 ≤ k) × (k < 1 + place) × ((end_name n (a_router n k) k ≡ name) ⊎ (end_name n (b_router n k) k ≡ name))
 earlier-end n place name low there =
-    let front : Contains (flat_map two_ends (map (link_text n) (numbers place))) name = subst (λ (ls : List LinkText). Contains (ends_of ls) name) (take-map-range_with_len (link_text n) 1 (link_count n) place low) there in
+    let front : Contains (flat_map two_ends (map (link_text n) (numbers place))) name =
+    subst (λ (ls : List LinkText). Contains (ends_of ls) name) (take-map-range_with_len (link_text n) 1 (link_count n) place low) there in
     let piece = items.from_piece two_ends (map (link_text n) (numbers place)) name front in
     let number = items.from_map (link_text n) (numbers place) piece.0 piece.1 in
     let k = number.0 in
@@ -64,7 +67,8 @@ earlier-end n place name low there =
     ] in
     (k, ranged.0, ranged.1, which)
 
-free-end : (n place router : ℕ) → 6 ≤ n → n ≤ 40 → place < link_count n → router ≤ n → has_end n router (1 + place) ≡ true → ¬ Contains (ends_of (take place (all_links n))) (end_name n router (1 + place))
+free-end : (n place router : ℕ) → 6 ≤ n → n ≤ 40 → place < link_count n → router ≤ n → has_end n router (1 + place) ≡ true →
+    ¬ Contains (ends_of (take place (all_links n))) (end_name n router (1 + place))
 free-end n place router some few low high has there =
     let early = earlier-end n place (end_name n router (1 + place)) (omega arith) there in
     let k = early.0 in
@@ -134,10 +138,12 @@ pub record IsLinkFace (n router link : ℕ) (row : FaceRow) : Type 0 where
 
 module _ (n : ℕ) (doc : Document) (net : Network) (rows : AreRows doc (all_settings n) net) (few : n ≤ 40) where
   -- the interface of a row, and what the row says of it
-  pub site-of-row : (k : ℕ) (f : FaceRow) → slice_get net.faces k ≡ Some f → (site : Site) × (slice_get (sites (all_settings n)) k ≡ Some site) × IsFaceRow net.protocol (ends_of doc.links) (map packet_list_key net.packet_lists) site f
+  pub site-of-row : (k : ℕ) (f : FaceRow) → slice_get net.faces k ≡ Some f →
+      (site : Site) × (slice_get (sites (all_settings n)) k ≡ Some site) × IsFaceRow net.protocol (ends_of doc.links) (map packet_list_key net.packet_lists) site f
   site-of-row k f at = AllZip-left (IsFaceRow net.protocol (ends_of doc.links) (map packet_list_key net.packet_lists)) (sites (all_settings n)) net.faces rows.base.faces k f at
 
-  named-row : (k router link : ℕ) (f : FaceRow) → router ≤ n → 1 ≤ link → link ≤ link_count n → has_end n router link ≡ true → slice_get (full_names (all_settings n)) k ≡ Some (end_name n router link) → slice_get net.faces k ≡ Some f → IsLinkFace n router link f
+  named-row : (k router link : ℕ) (f : FaceRow) → router ≤ n → 1 ≤ link → link ≤ link_count n → has_end n router link ≡ true →
+      slice_get (full_names (all_settings n)) k ≡ Some (end_name n router link) → slice_get net.faces k ≡ Some f → IsLinkFace n router link f
   named-row k router link f high some most has named at =
       let s = site-of-row k f at in
       let h = site-is n k s.0 s.1 in

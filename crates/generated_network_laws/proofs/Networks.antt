@@ -27,7 +27,8 @@ use Rattle.net_gen.specs.RouterFiles.{host_name}
 use Rattle.net_gen.proofs.Lengths.{asked_length}
 use Rattle.generated_network_laws.specs.Laws.{GeneratedFilesAreNotRefused, GeneratedNetworksHaveTheirPlan, GeneratedDocumentsHaveTheirPolicies}
 use Rattle.generated_network_laws.proofs.EndpointsClear.{endpoint-clear}
-use Rattle.generated_network_laws.proofs.FilesClear.{hostname-clear, protocol-is, protocol-clear, areas-clear, as-clear, down-clear, neighbor-clear, network-clear, interfaces-clear, entries-clear, stops-clear, adjacency-clear}
+use Rattle.generated_network_laws.proofs.FilesClear.{hostname-clear, protocol-is, protocol-clear, areas-clear, as-clear, down-clear}
+use Rattle.generated_network_laws.proofs.FilesClear.{neighbor-clear, network-clear, interfaces-clear, entries-clear, stops-clear, adjacency-clear}
 use Rattle.arc_base.proofs.Zips.{AllZip-length}
 use Rattle.generated_network_laws.proofs.LinksClear.{all_links, faces-clear, subnets-clear}
 use Rattle.generated_network_laws.proofs.Planned.{joins, has-host}
@@ -82,7 +83,8 @@ no-route-row n row is =
     let at = mapped-at (settings_of n) 1 n row.router.0 is.config is.at_router in
     none-some row (subst (λ (c : Config). route_row_at row.router.0 c row.name ≡ Some row) (sym at.1) is.defined)
 
-names-are : (protocol : Protocol) (f : ℕ → Config) (g : ℕ → List ℕ) (xs : List ℕ) (rows : List RouterRow) → ((x : ℕ) → build.host_name (f x) ≡ g x) → AllZip (IsRouterRow protocol) (map f xs) rows → map (λ (r : RouterRow). r.name) rows ≡ map g xs
+names-are : (protocol : Protocol) (f : ℕ → Config) (g : ℕ → List ℕ) (xs : List ℕ) (rows : List RouterRow) → ((x : ℕ) → build.host_name (f x) ≡ g x) →
+    AllZip (IsRouterRow protocol) (map f xs) rows → map (λ (r : RouterRow). r.name) rows ≡ map g xs
 names-are protocol f g [] [] same zip = refl
 names-are protocol f g [] (r ∷ rows) same zip = absurd zip
 names-are protocol f g (x ∷ xs) [] same zip = absurd zip

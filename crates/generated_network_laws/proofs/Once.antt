@@ -40,14 +40,19 @@ pub all-above : (n router p q : ℕ) (links : List ℕ) → p ≤ q → PortsRis
 all-above n router p q [] low rise = tt
 all-above n router p q (link ∷ links) low rise = let first = rise.0 in ((omega arith, rise.1), all-above n router p (port n router link) links (omega arith) rise.2)
 
-rise-from : (n router p a m : ℕ) → a + m ≤ 64 → ((link : ℕ) → a ≤ link → link < a + m → has_end n router link ≡ true → (p < port n router link) × (port n router link < 64)) → PortsRise n router p (filter (has_end n router) (range_with_len a m))
+rise-from : (n router p a m : ℕ) → a + m ≤ 64 →
+    ((link : ℕ) → a ≤ link → link < a + m → has_end n router link ≡ true → (p < port n router link) × (port n router link < 64)) → PortsRise n router p (filter (has_end n router) (range_with_len a m))
 rise-from n router p a zero few above = tt
 rise-from n router p a (suc m) few above =
     ⊎_elim
     (λ (yes : has_end n router a ≡ true).
     let here = above a (omega arith) (omega arith) yes in
-    subst (PortsRise n router p) (sym (cond-true (has_end n router a) (a ∷ rest) rest yes))
-    (here.0, here.1, rise-from n router (port n router a) (a + 1) m (omega arith) (λ link low high has. (port-rises n router a link (omega arith) has, (above link (omega arith) (omega arith) has).1))))
+    subst (PortsRise n router p) (sym (cond-true (has_end n router a) (a ∷ rest) rest yes)) (
+      here.0,
+      here.1,
+      rise-from n router (port n router a) (a + 1) m (omega arith)
+          (λ link low high has. (port-rises n router a link (omega arith) has, (above link (omega arith) (omega arith) has).1)),
+    ))
     (λ (no : has_end n router a ≡ false).
     subst (PortsRise n router p) (sym (cond-false (has_end n router a) (a ∷ rest) rest no))
     (rise-from n router p (a + 1) m (omega arith) (λ link low high has. above link (omega arith) (omega arith) has)))

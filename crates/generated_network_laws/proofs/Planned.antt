@@ -60,7 +60,8 @@ module _ (n : ℕ) (doc : Document) (net : Network) (rows : AreRows doc (all_set
   ospf : net.protocol ≡ Ospf
   ospf = rows.base.protocol ∙ protocol-is n (omega arith)
 
-  end-is : (router link end place : ℕ) → router ≤ n → 1 ≤ link → link ≤ link_count n → has_end n router link ≡ true → end_of n router link ≡ end → end < 4 → slice_get (full_names (all_settings n)) place ≡ Some (end_name n router link) → IsEndAt n net router link end place
+  end-is : (router link end place : ℕ) → router ≤ n → 1 ≤ link → link ≤ link_count n → has_end n router link ≡ true → end_of n router link ≡ end → end < 4 →
+      slice_get (full_names (all_settings n)) place ≡ Some (end_name n router link) → IsEndAt n net router link end place
   end-is router link end place high low most has is-end small named =
       let site = mapped-from full_name (slice_get (sites (all_settings n)) place) (end_name n router link) (sym (slice_get-map full_name (sites (all_settings n)) place) ∙ named) in
       let row = AllZip-right (IsFaceRow net.protocol (ends_of doc.links) (map packet_list_key net.packet_lists)) (sites (all_settings n)) net.faces rows.base.faces place site.0 site.1 in

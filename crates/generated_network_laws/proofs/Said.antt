@@ -106,7 +106,8 @@ module _ (n router : ℕ) (few : n ≤ 40) (own : router ≤ n) where
     ];
   }
 
-said-all : (f : ℕ → List ℕ) (g : ℕ → Config) (xs : List ℕ) (configs : List Config) → ((x : ℕ) → Contains xs x → (c : Config) → Says (f x) c → c ≡ g x) → AllZip Says (map f xs) configs → configs ≡ map g xs
+said-all : (f : ℕ → List ℕ) (g : ℕ → Config) (xs : List ℕ) (configs : List Config) → ((x : ℕ) → Contains xs x → (c : Config) → Says (f x) c → c ≡ g x) →
+    AllZip Says (map f xs) configs → configs ≡ map g xs
 said-all f g [] [] each said = refl
 said-all f g [] (c ∷ configs) each said = absurd said
 said-all f g (x ∷ xs) [] each said = absurd said

@@ -87,7 +87,8 @@ map-same f g [] all = refl
 map-same f g (x ∷ xs) all = ap (λ y. y ∷ map f xs) all.0 ∙ ap (λ l. g x ∷ l) (map-same f g xs all.1)
 
 -- the commands of a block, before those of later ones, are a group of their own
-groups-block : (b : ℕ) (xs rest : List FileCommand) → distinct (map part_of (xs ++ rest)) ≡ distinct (Block b ∷ map part_of rest) → AllByRecursion (λ c. part_of c ≡ Block b) xs → AllByRecursion (IsLater b) rest →
+groups-block : (b : ℕ) (xs rest : List FileCommand) → distinct (map part_of (xs ++ rest)) ≡ distinct (Block b ∷ map part_of rest) →
+    AllByRecursion (λ c. part_of c ≡ Block b) xs → AllByRecursion (IsLater b) rest →
     groups (xs ++ rest) ≡ xs ∷ groups rest
 groups-block b xs rest parts own later =
     let all = xs ++ rest in
@@ -122,10 +123,12 @@ groups-links : (n router at end : ℕ) (links : List ℕ) → at + 3 * length li
     groups (link_commands n router at links ++ last_commands end) ≡ link_groups n router at links ++ (process_commands end ∷ end_commands end ∷ [])
 unfolding link_groups
 groups-links n router at end [] few =
-    groups-two (end + 1) (command_at (end + 1) (end + 1) (commands.RouterOspf 1)) (command_at (end + 2) (end + 1) (commands.Covers whole 0)) (end_commands end) refl refl ((end + 4, refl, omega arith), tt)
+    groups-two (end + 1) (command_at (end + 1) (end + 1) (commands.RouterOspf 1)) (command_at (end + 2) (end + 1) (commands.Covers whole 0)) (end_commands end)
+    refl refl ((end + 4, refl, omega arith), tt)
     ∙ ap (λ gs. process_commands end ∷ gs) (groups-one (end + 4) (command_at (end + 4) (end + 4) commands.Inert) [] refl tt)
 groups-links n router at end (link ∷ links) few =
-    groups-two (at + 1) (command_at (at + 1) (at + 1) (commands.Interface (face_name (port n router link)))) (command_at (at + 2) (at + 1) (commands.Address (address 0 link (end_of n router link)) 30))
+    groups-two (at + 1) (command_at (at + 1) (at + 1) (commands.Interface (face_name (port n router link)))) (command_at (at + 2) (at + 1)
+    (commands.Address (address 0 link (end_of n router link)) 30))
     (link_commands n router (at + 3) links ++ last_commands end) refl refl (later-links n router (at + 1) (at + 3) end links (omega arith) (omega arith))
     ∙ ap (λ gs. link_face_commands n router at link ∷ gs) (groups-links n router (at + 3) end links (omega arith))
 
@@ -212,8 +215,10 @@ sets n router links =
     let few : 5 + 3 * length links ≤ end = omega arith in
     let after-host = later-links n router 3 5 end links (omega arith) few in
     let grouped : groups (file_commands n router links) ≡ (name_command router ∷ []) ∷ host_commands router ∷ link_groups n router 5 links ++ tail =
-    groups-one 0 (name_command router) inner refl ((3, refl, omega arith), ((3, refl, omega arith), all-weaker (IsLater 3) (IsLater 0) (λ c l. (l.0, l.1, let high = l.2 in omega arith)) rest after-host))
-    ∙ ap (λ gs. (name_command router ∷ []) ∷ gs) (groups-two 3 (command_at 3 3 (commands.Interface (face_name 0))) (command_at 4 3 (commands.Address (address router 0 1) 24)) rest refl refl after-host)
+    groups-one 0 (name_command router) inner refl
+    ((3, refl, omega arith), ((3, refl, omega arith), all-weaker (IsLater 3) (IsLater 0) (λ c l. (l.0, l.1, let high = l.2 in omega arith)) rest after-host))
+    ∙ ap (λ gs. (name_command router ∷ []) ∷ gs)
+    (groups-two 3 (command_at 3 3 (commands.Interface (face_name 0))) (command_at 4 3 (commands.Address (address router 0 1) 24)) rest refl refl after-host)
     ∙ ap (λ gs. (name_command router ∷ []) ∷ host_commands router ∷ gs) (groups-links n router 5 end links few) in
     let named : last_setting hostname (file_commands n router links) ≡ Some (record { value = host_name router; line = 1 }) =
     silent-rest hostname (name_command router ∷ []) inner (refl, (refl, no-names n router 5 end links)) in
@@ -221,7 +226,8 @@ sets n router links =
     ap (flat_map face_of) grouped ∙ ap (λ fs. host_face router ∷ fs) (faces-of n router 5 end links) in
     let lists : flat_map list_of (groups (file_commands n router links)) ≡ [] = ap (flat_map list_of) grouped ∙ lists-of n router 5 end links in
     let process : flat_map process_of (groups (file_commands n router links)) ≡ process_at end ∷ [] = ap (flat_map process_of) grouped ∙ processes-of n router 5 end links in
-    let name : option_map (λ (g : Given (List ℕ)). record { name = g.value; line = g.line }) (last_setting hostname (file_commands n router links)) ≡ Some (record { name = host_name router; line = 1 }) = ap (option_map (λ (g : Given (List ℕ)). record { name = g.value; line = g.line })) named in
+    let name : option_map (λ (g : Given (List ℕ)). record { name = g.value; line = g.line }) (last_setting hostname (file_commands n router links)) ≡ Some
+    (record { name = host_name router; line = 1 }) = ap (option_map (λ (g : Given (List ℕ)). record { name = g.value; line = g.line })) named in
     same-config (config_of (file_commands n router links)) (settings n router links) name faces lists process
   where
     same-config : (a b : Config) → a.hostname ≡ b.hostname → a.faces ≡ b.faces → a.lists ≡ b.lists → a.process ≡ b.process → a ≡ b

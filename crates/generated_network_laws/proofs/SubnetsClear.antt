@@ -66,13 +66,15 @@ links-never l m end last a other small few one two = omega arith
 
 module _ (n : ℕ) (doc : Document) (net : Network) (rows : AreRows doc (all_settings n) net) (some : 6 ≤ n) (few : n ≤ 40) (links : doc.links ≡ all_links n) where
   -- the link ends at the interface of that name
-  end-at : (row : LinkRow) (k router link : ℕ) → IsLinkRow (full_names (all_settings n)) (link_text n link) row → has_end n router link ≡ true → slice_get (full_names (all_settings n)) k ≡ Some (end_name n router link) → EndsAt row k
+  end-at : (row : LinkRow) (k router link : ℕ) → IsLinkRow (full_names (all_settings n)) (link_text n link) row → has_end n router link ≡ true →
+      slice_get (full_names (all_settings n)) k ≡ Some (end_name n router link) → EndsAt row k
   end-at row k router link is has named = elim (ends-are n router link has) [
     | inl a ↦ inl (one_place (full_names (all_settings n)) row.a.0 k (end_name n router link) (names-apart n few) (is.a ∙ ap (λ (r : ℕ). Some (end_name n r link)) a) named)
     | inr b ↦ inr (one_place (full_names (all_settings n)) row.b.0 k (end_name n router link) (names-apart n few) (is.b ∙ ap (λ (r : ℕ). Some (end_name n r link)) b) named)
   ]
 
-  named-over : (k : ℕ) (site : Site) (h : HasSite n site) (over : IsOverLink n h.router site.face) → slice_get (sites (all_settings n)) k ≡ Some site → slice_get (full_names (all_settings n)) k ≡ Some (end_name n h.router over.link)
+  named-over : (k : ℕ) (site : Site) (h : HasSite n site) (over : IsOverLink n h.router site.face) → slice_get (sites (all_settings n)) k ≡ Some site →
+      slice_get (full_names (all_settings n)) k ≡ Some (end_name n h.router over.link)
   named-over k site h over at = name_at_site (all_settings n) k site at ∙ ap Some (name-of n site h ∙ ap (λ (f : FaceText). (host_name h.router, f.name)) over.is)
 
   linked : (i j r s link : ℕ) → 1 ≤ link → link ≤ link_count n → has_end n r link ≡ true → has_end n s link ≡ true →
@@ -80,7 +82,8 @@ module _ (n : ℕ) (doc : Document) (net : Network) (rows : AreRows doc (all_set
   linked i j r s link low most r-has s-has at-i at-j =
       let k = link - 1 in
       let number : 1 + k ≡ link = omega arith in
-      let there : slice_get doc.links k ≡ Some (link_text n (1 + k)) = subst (λ (ls : List LinkText). slice_get ls k ≡ Some (link_text n (1 + k))) (sym links) (at-mapped (link_text n) 1 (link_count n) k (omega arith)) in
+      let there : slice_get doc.links k ≡ Some (link_text n (1 + k)) =
+      subst (λ (ls : List LinkText). slice_get ls k ≡ Some (link_text n (1 + k))) (sym links) (at-mapped (link_text n) 1 (link_count n) k (omega arith)) in
       let row = AllZip-right (IsLinkRow (full_names (all_settings n))) doc.links net.links rows.base.links k (link_text n (1 + k)) there in
       let is : IsLinkRow (full_names (all_settings n)) (link_text n link) row.0 = subst (λ (l : ℕ). IsLinkRow (full_names (all_settings n)) (link_text n l) row.0) number row.2 in
       any-of (λ (l : LinkRow). EndsAt l i × EndsAt l j) net.links row.0 (Contains-at net.links k row.0 row.1) (end-at row.0 i r link is r-has at-i, end-at row.0 j s link is s-has at-j)
@@ -100,16 +103,19 @@ module _ (n : ℕ) (doc : Document) (net : Network) (rows : AreRows doc (all_set
                 | inl other ↦
                     let sub-g : IsSomeAnd g.subnet (IsPrefixAt (address k.router 0 1) 24) = subst (λ (face : FaceText). IsSubnet (address_of face) g.subnet) other two.2.subnet in
                     let differ : h.router ≢ k.router = λ same. apart (one-site n i j one.0 two.0 few one.1 two.1
-                    (name-of n one.0 h ∙ ap (λ (x : FaceText). (host_name h.router, x.name)) host ∙ ap (λ (r : ℕ). (host_name r, face_name 0)) same ∙ sym (name-of n two.0 k ∙ ap (λ (x : FaceText). (host_name k.router, x.name)) other))) in
+                    (name-of n one.0 h ∙ ap (λ (x : FaceText). (host_name h.router, x.name)) host ∙ ap (λ (r : ℕ). (host_name r, face_name 0)) same
+                    ∙ sym (name-of n two.0 k ∙ ap (λ (x : FaceText). (host_name k.router, x.name)) other))) in
                     inr (disjoint (address h.router 0 1) 24 (address k.router 0 1) 24 f.subnet g.subnet (λ a here there. hosts-never h.router k.router a differ here there) sub-f sub-g)
                 | inr over ↦
-                    let sub-g : IsSomeAnd g.subnet (IsPrefixAt (address 0 over.link (end_of n k.router over.link)) 30) = subst (λ (face : FaceText). IsSubnet (address_of face) g.subnet) over.is two.2.subnet in
+                    let sub-g : IsSomeAnd g.subnet (IsPrefixAt (address 0 over.link (end_of n k.router over.link)) 30) =
+                    subst (λ (face : FaceText). IsSubnet (address_of face) g.subnet) over.is two.2.subnet in
                     let most : over.link ≤ link_count n = over.high in
                     inr (disjoint (address h.router 0 1) 24 (address 0 over.link (end_of n k.router over.link)) 30 f.subnet g.subnet
                     (λ a here there. host-link-never h.router over.link (end_of n k.router over.link) a h.low (omega arith) (end-few n k.router over.link) here there) sub-f sub-g)
               ]
           | inr over ↦
-              let sub-f : IsSomeAnd f.subnet (IsPrefixAt (address 0 over.link (end_of n h.router over.link)) 30) = subst (λ (face : FaceText). IsSubnet (address_of face) f.subnet) over.is one.2.subnet in
+              let sub-f : IsSomeAnd f.subnet (IsPrefixAt (address 0 over.link (end_of n h.router over.link)) 30) =
+              subst (λ (face : FaceText). IsSubnet (address_of face) f.subnet) over.is one.2.subnet in
               let most : over.link ≤ link_count n = over.high in
               elim k.face [
                 | inl other ↦
@@ -117,14 +123,16 @@ module _ (n : ℕ) (doc : Document) (net : Network) (rows : AreRows doc (all_set
                     inr (turned g.subnet f.subnet (disjoint (address k.router 0 1) 24 (address 0 over.link (end_of n h.router over.link)) 30 g.subnet f.subnet
                     (λ a here there. host-link-never k.router over.link (end_of n h.router over.link) a k.low (omega arith) (end-few n h.router over.link) here there) sub-g sub-f))
                 | inr last ↦
-                    let sub-g : IsSomeAnd g.subnet (IsPrefixAt (address 0 last.link (end_of n k.router last.link)) 30) = subst (λ (face : FaceText). IsSubnet (address_of face) g.subnet) last.is two.2.subnet in
+                    let sub-g : IsSomeAnd g.subnet (IsPrefixAt (address 0 last.link (end_of n k.router last.link)) 30) =
+                    subst (λ (face : FaceText). IsSubnet (address_of face) g.subnet) last.is two.2.subnet in
                     ⊎_elim
                     (λ (same : over.link ≡ last.link).
                     inl (linked i j h.router k.router over.link over.low over.high over.has (subst (λ (l : ℕ). has_end n k.router l ≡ true) (sym same) last.has)
                     (named-over i one.0 h over one.1) (subst (λ (l : ℕ). slice_get (full_names (all_settings n)) j ≡ Some (end_name n k.router l)) (sym same) (named-over j two.0 k last two.1))))
                     (λ (other : over.link ≡ last.link → ⊥).
                     inr (disjoint (address 0 over.link (end_of n h.router over.link)) 30 (address 0 last.link (end_of n k.router last.link)) 30 f.subnet g.subnet
-                    (λ a here there. links-never over.link last.link (end_of n h.router over.link) (end_of n k.router last.link) a other (end-few n h.router over.link) (end-few n k.router last.link) here there) sub-f sub-g))
+                    (λ a here there. links-never over.link last.link (end_of n h.router over.link) (end_of n k.router last.link) a other (end-few n h.router over.link)
+                    (end-few n k.router last.link) here there) sub-f sub-g))
                     (cases_eq over.link last.link)
               ]
         ]

@@ -1,5 +1,6 @@
 -- A line that is put at the end of a block.
-use Rattle.std.proofs.Common.{◌≡◌, ◌≢◌, ℕ, suc, ◌+◌, ◌<◌, ◌≤◌, ◌||◌, not, Bool, true, false, List, [], ◌∷◌, ◌++◌, length, map, slice_get, take, Some, None, append-nil, refl, sym, ap, subst, ◌∙◌, arith, ⊎_elim, inl, Contains}
+use Rattle.std.proofs.Common.{◌≡◌, ◌≢◌, ℕ, suc, ◌+◌, ◌<◌, ◌≤◌, ◌||◌, not, Bool, true, false, List, [], ◌∷◌, ◌++◌}
+use Rattle.std.proofs.Common.{length, map, slice_get, take, Some, None, append-nil, refl, sym, ap, subst, ◌∙◌, arith, ⊎_elim, inl, Contains}
 use Rattle.std.proofs.lemmas.Bool.{cases_Bool, cond-false}
 use Rattle.std.proofs.lemmas.List.Elements.{filter-append, Contains-append_right, Contains-append_cases}
 use Rattle.std.specs.List.{list_any, enumerate_from, AllByRecursion}
@@ -52,7 +53,8 @@ pub record CommandPlace (lines : List (List ℕ)) (c : FileCommand) : Type 0 whe
   pub block : c.block ≡ mark.block
   pub told : IsPlaceOf lines place mark
 
-pub command-place : (text : List ℕ) (lines : Lines) (commands : List FileCommand) (c : FileCommand) → CanBeCut text → (new : List ℕ) (more : Lines) → HaveLines text new lines more commands → Contains commands c → CommandPlace (text_lines text) c
+pub command-place : (text : List ℕ) (lines : Lines) (commands : List FileCommand) (c : FileCommand) → CanBeCut text → (new : List ℕ) (more : Lines) →
+    HaveLines text new lines more commands → Contains commands c → CommandPlace (text_lines text) c
 command-place text lines commands c cut new more have among =
     let marks = marks_of text lines in
     let (l, there, r) = zip-found (IsMarkRead marks) (command_marks marks) commands c ((commands-of-marks text lines commands).0 have.reads) among in
@@ -99,7 +101,8 @@ in-front place commands split c among early = ⊎_elim
     (Contains-append_cases split.front split.back c (subst (λ (cs : List FileCommand). Contains cs c) split.parts among))
 
 -- a command after all of its block changes what the block sets, and nothing else
-pub block-sets : (commands : List FileCommand) (head last : FileCommand) (within : BlockKind) (line : List ℕ) (command : Command) → HasBlock commands head last within → IsLineOf line within head.line command →
+pub block-sets : (commands : List FileCommand) (head last : FileCommand) (within : BlockKind) (line : List ℕ) (command : Command) →
+    HasBlock commands head last within → IsLineOf line within head.line command →
     Split last.line commands → HasOneOther (bare_config (config_of commands)) (bare_config (config_of (with_command last.line (command_at (last.line + 1) head.line command) commands)))
     (map bare (members commands (Block head.line))) (map bare (members commands (Block head.line)) ++ record { line = 0; block = 0; command = command } ∷ [])
 block-sets commands head last within line command b of split =
@@ -117,11 +120,16 @@ block-sets commands head last within line command b of split =
     let under : d.line ≤ place = b.latest d among same in
     omega arith) in
     let whole : members split.front part ≡ members commands part =
-    sym (append-nil (members split.front part)) ∙ ap (λ cs. members split.front part ++ cs) (sym none_back) ∙ sym (filter-append (λ d. is_same part (part_of d)) split.front split.back) ∙ ap (λ cs. members cs part) (sym split.parts) in
-    subst (λ (cs : List FileCommand). HasOneOther (bare_config (config_of cs)) (bare_config (config_of (with_command place c commands))) (map bare (members commands part)) (map bare (members commands part) ++ bare c ∷ [])) (sym split.parts)
-    (subst (λ (cs : List FileCommand). HasOneOther (bare_config (config_of (split.front ++ split.back))) (bare_config (config_of cs)) (map bare (members commands part)) (map bare (members commands part) ++ bare c ∷ [])) (sym (split.with_one c))
-    (subst (λ (g : List FileCommand). HasOneOther (bare_config (config_of (split.front ++ split.back))) (bare_config (config_of (between place split.front c split.back))) g (map bare (members commands part) ++ bare c ∷ [])) (ap (λ cs. map bare (members cs part)) (sym split.parts))
-    (subst (λ (g : List FileCommand). HasOneOther (bare_config (config_of (split.front ++ split.back))) (bare_config (config_of (between place split.front c split.back))) (map bare (members (split.front ++ split.back) part)) g)
+    sym (append-nil (members split.front part)) ∙ ap (λ cs. members split.front part ++ cs) (sym none_back) ∙ sym (filter-append (λ d. is_same part (part_of d)) split.front split.back)
+    ∙ ap (λ cs. members cs part) (sym split.parts) in
+    subst (λ (cs : List FileCommand). HasOneOther (bare_config (config_of cs)) (bare_config (config_of (with_command place c commands))) (map bare (members commands part))
+    (map bare (members commands part) ++ bare c ∷ [])) (sym split.parts)
+    (subst (λ (cs : List FileCommand). HasOneOther (bare_config (config_of (split.front ++ split.back))) (bare_config (config_of cs)) (map bare (members commands part))
+    (map bare (members commands part) ++ bare c ∷ [])) (sym (split.with_one c))
+    (subst (λ (g : List FileCommand). HasOneOther (bare_config (config_of (split.front ++ split.back))) (bare_config (config_of (between place split.front c split.back))) g
+    (map bare (members commands part) ++ bare c ∷ [])) (ap (λ cs. map bare (members cs part)) (sym split.parts))
+    (subst (λ (g : List FileCommand). HasOneOther (bare_config (config_of (split.front ++ split.back))) (bare_config (config_of (between place split.front c split.back)))
+    (map bare (members (split.front ++ split.back) part)) g)
     (ap (λ cs. map bare cs ++ bare c ∷ map bare (members split.back part)) whole ∙ ap (λ cs. map bare (members commands part) ++ bare c ∷ map bare cs) none_back)
     sets)))
 

@@ -48,7 +48,8 @@ bare-said line None = refl
 bare-said line (Some None) = refl
 bare-said line (Some (Some v)) = refl
 
-bare-found : {V : Type 0} → (says : Says V) (o : Option FileCommand) → option_and_then (λ (c : FileCommand). given_at c.line (says c.command)) (option_map bare o) ≡ bare_option (option_and_then (λ (c : FileCommand). given_at c.line (says c.command)) o)
+bare-found : {V : Type 0} → (says : Says V) (o : Option FileCommand) →
+    option_and_then (λ (c : FileCommand). given_at c.line (says c.command)) (option_map bare o) ≡ bare_option (option_and_then (λ (c : FileCommand). given_at c.line (says c.command)) o)
 bare-found says None = refl
 bare-found says (Some c) = bare-said c.line (says c.command)
 
@@ -85,7 +86,8 @@ faces-bare [] = refl
 faces-bare (head ∷ rest) = face-by head.command head.line (head ∷ rest)
 
 -- the entries of a list
-entry-step : (c : FileCommand) (b : Bool) (more rest : List (Given Command)) → more ≡ map bare_given rest → cons_option (cond b (Some (given (bare c))) None) more ≡ map bare_given (cons_option (cond b (Some (given c)) None) rest)
+entry-step : (c : FileCommand) (b : Bool) (more rest : List (Given Command)) → more ≡ map bare_given rest →
+    cons_option (cond b (Some (given (bare c))) None) more ≡ map bare_given (cons_option (cond b (Some (given c)) None) rest)
 entry-step c true more rest same = ap (λ es. bare_given (given c) ∷ es) same
 entry-step c false more rest same = same
 
@@ -117,7 +119,8 @@ lists-bare [] = refl
 lists-bare (first ∷ rest) = list-by first.command (first ∷ rest)
 
 -- a process
-process-bare : (kind : ProcessKind) (number : ℕ) (head : FileCommand) (rest : List FileCommand) → bare_process (process_text kind number head rest) ≡ process_text kind number (bare head) (map bare rest)
+process-bare : (kind : ProcessKind) (number : ℕ) (head : FileCommand) (rest : List FileCommand) →
+    bare_process (process_text kind number head rest) ≡ process_text kind number (bare head) (map bare rest)
 process-bare kind number head rest = λ i. record {
   kind = kind;
   number = number;
@@ -136,7 +139,8 @@ processes-bare [] = refl
 processes-bare (head ∷ rest) = process-by head.command head rest
 
 -- what is made of the items of groups
-pieces-bare : {A : Type 0} → (f : List FileCommand → List A) (b : A → A) (gs : List (List FileCommand)) → ((g : List FileCommand) → map b (f g) ≡ f (map bare g)) → map b (flat_map f gs) ≡ flat_map f (map (map bare) gs)
+pieces-bare : {A : Type 0} → (f : List FileCommand → List A) (b : A → A) (gs : List (List FileCommand)) →
+    ((g : List FileCommand) → map b (f g) ≡ f (map bare g)) → map b (flat_map f gs) ≡ flat_map f (map (map bare) gs)
 pieces-bare f b [] same = refl
 pieces-bare f b (g ∷ gs) same = map-append b (f g) (flat_map f gs) ∙ ap (λ xs. xs ++ map b (flat_map f gs)) (same g) ∙ ap (λ xs. f (map bare g) ++ xs) (pieces-bare f b gs same)
 

@@ -17,7 +17,8 @@ use Rattle.ios_config.specs.declared.settings.ListKind.{ListKind}
 use Rattle.ios_config.specs.declared.settings.ListForm.{ListForm}
 use Rattle.ios_config.specs.declared.settings.ProcessText.{ProcessText}
 use Rattle.ios_config.specs.declared.settings.ProcessKind.{ProcessKind}
-use Rattle.ios_config.specs.Effects.{process_with, ALastLineIsTheProcesss, face_bound, ALastBindingIsSet, list_with, AFirstEntryIsTheLists, AFirstListLineIsTheLists, AFirstPrefixLineIsTheLists, StillStandsOnce, SilentCommandsClashWithNone, PlacesRise, NoNumbersRise}
+use Rattle.ios_config.specs.Effects.{process_with, ALastLineIsTheProcesss, face_bound, ALastBindingIsSet, list_with, AFirstEntryIsTheLists}
+use Rattle.ios_config.specs.Effects.{AFirstListLineIsTheLists, AFirstPrefixLineIsTheLists, StillStandsOnce, SilentCommandsClashWithNone, PlacesRise, NoNumbersRise}
 use Rattle.ios_config.specs.Inserted.{command_moved}
 use Rattle.ios_config.specs.Rising.{rises}
 use Rattle.ios_config.specs.Texts.{given, face_text, face_by, entry_number, is_entry, entries, is_numbered, list_text, list_by, process_text, process_by}
@@ -26,7 +27,8 @@ use Rattle.ios_config.specs.Values.{address, mask_length, shut_down, bandwidth, 
 use Rattle.ios_config.proofs.Values.{last_setting-more, last_line-more}
 
 -- a process
-process-more : (kind : ProcessKind) (number : ℕ) (head : FileCommand) (rest : List FileCommand) (c : FileCommand) → process_text kind number head (rest ++ c ∷ []) ≡ process_with c (process_text kind number head rest)
+process-more : (kind : ProcessKind) (number : ℕ) (head : FileCommand) (rest : List FileCommand) (c : FileCommand) →
+    process_text kind number head (rest ++ c ∷ []) ≡ process_with c (process_text kind number head rest)
 process-more kind number head rest c = λ i. record { kind = kind; number = number; head = head.line; last = last_line-more (head ∷ rest) c i; lines = map-append given rest (c ∷ []) i }
 
 process-by : (command : Command) (head : FileCommand) (rest : List FileCommand) (c : FileCommand) → process_by command head (rest ++ c ∷ []) ≡ map (process_with c) (process_by command head rest)
@@ -38,7 +40,8 @@ pub last-line : ALastLineIsTheProcesss
 last-line head rest c = process-by head.command head rest c
 
 -- an interface
-face-more : (name : List ℕ) (head : ℕ) (cs : List FileCommand) (line block : ℕ) (list : List ℕ) → face_text name head (cs ++ record { line = line; block = block; command = commands.Group list true } ∷ []) ≡ face_bound list line (face_text name head cs)
+face-more : (name : List ℕ) (head : ℕ) (cs : List FileCommand) (line block : ℕ) (list : List ℕ) →
+    face_text name head (cs ++ record { line = line; block = block; command = commands.Group list true } ∷ []) ≡ face_bound list line (face_text name head cs)
 face-more name head cs line block list =
     let c : FileCommand = record { line = line; block = block; command = commands.Group list true } in
     λ i. record {
@@ -56,7 +59,8 @@ face-more name head cs line block list =
       list_out = last_setting-more outbound cs c i;
     }
 
-face-by : (command : Command) (head : ℕ) (cs : List FileCommand) (line block : ℕ) (list : List ℕ) → face_by command head (cs ++ record { line = line; block = block; command = commands.Group list true } ∷ []) ≡ map (face_bound list line) (face_by command head cs)
+face-by : (command : Command) (head : ℕ) (cs : List FileCommand) (line block : ℕ) (list : List ℕ) →
+    face_by command head (cs ++ record { line = line; block = block; command = commands.Group list true } ∷ []) ≡ map (face_bound list line) (face_by command head cs)
 face-by (commands.Interface name) head cs line block list = ap (λ (f : FaceText). f ∷ []) (face-more name head cs line block list)
 face-by _ head cs line block list = refl
 
@@ -67,16 +71,19 @@ last-binding head rest line block name = face-by head.command head.line (head �
 abbrev entry_if : FileCommand → Option (Given Command)
 entry_if c = cond (is_entry c.command) (Some (given c)) None
 
-entries-first : (front : List FileCommand) (c : FileCommand) (back : List FileCommand) → entries front ≡ [] → is_entry c.command ≡ true → entries (front ++ c ∷ back) ≡ given c ∷ entries (front ++ back)
+entries-first : (front : List FileCommand) (c : FileCommand) (back : List FileCommand) → entries front ≡ [] → is_entry c.command ≡ true →
+    entries (front ++ c ∷ back) ≡ given c ∷ entries (front ++ back)
 entries-first front c back none is =
     filter_map-append entry_if front (c ∷ back) ∙ ap (λ es. es ++ entries (c ∷ back)) none ∙ ap (λ b. cons_option (cond b (Some (given c)) None) (entries back)) is
     ∙ sym (ap (λ es. given c ∷ es) (filter_map-append entry_if front back ∙ ap (λ es. es ++ entries back) none))
 
 list-first : (name : List ℕ) (kind : ListKind) (form : ListForm) (front : List FileCommand) (c : FileCommand) (back : List FileCommand) → entries front ≡ [] → is_entry c.command ≡ true →
     list_text name kind form (front ++ c ∷ back) ≡ list_with c (list_text name kind form (front ++ back))
-list-first name kind form front c back none is = λ i. record { name = name; kind = kind; form = form; numbered = is_numbered (entries-first front c back none is i); entries = entries-first front c back none is i }
+list-first name kind form front c back none is =
+    λ i. record { name = name; kind = kind; form = form; numbered = is_numbered (entries-first front c back none is i); entries = entries-first front c back none is i }
 
-list-by : (command : Command) (front : List FileCommand) (c : FileCommand) (back : List FileCommand) → entries front ≡ [] → is_entry c.command ≡ true → list_by command (front ++ c ∷ back) ≡ map (list_with c) (list_by command (front ++ back))
+list-by : (command : Command) (front : List FileCommand) (c : FileCommand) (back : List FileCommand) → entries front ≡ [] → is_entry c.command ≡ true →
+    list_by command (front ++ c ∷ back) ≡ map (list_with c) (list_by command (front ++ back))
 list-by (commands.ListBlock extended name) front c back none is = ap (λ (l : ListText). l ∷ []) (list-first name _ _ front c back none is)
 list-by (commands.ListLine name entry) front c back none is = ap (λ (l : ListText). l ∷ []) (list-first name _ _ front c back none is)
 list-by (commands.PrefixLine name number entry) front c back none is = ap (λ (l : ListText). l ∷ []) (list-first name _ _ front c back none is)
@@ -95,11 +102,13 @@ first-prefix-line line block number other name m n one two rest = refl
 abbrev Apart : FileCommand → FileCommand → Type 0
 Apart b c = ¬ Clash b.command c.command
 
-pairs-inserted : (front : List FileCommand) (c : FileCommand) (back : List FileCommand) → AllPairs Apart (front ++ back) → ((d : FileCommand) → Contains front d → Apart d c) → ((d : FileCommand) → Contains back d → Apart c d) → AllPairs Apart (front ++ c ∷ back)
+pairs-inserted : (front : List FileCommand) (c : FileCommand) (back : List FileCommand) → AllPairs Apart (front ++ back) →
+    ((d : FileCommand) → Contains front d → Apart d c) → ((d : FileCommand) → Contains back d → Apart c d) → AllPairs Apart (front ++ c ∷ back)
 pairs-inserted [] c back all before after = AllPairs-append Apart (c ∷ []) back (AllPairs-single Apart c) all
     (λ x y one two. ⊎_elim (λ here. subst (λ (z : FileCommand). Apart z y) here (after y two)) (λ later. absurd (Contains-none x later)) (Contains-cases c x [] one))
 pairs-inserted (b ∷ front) c back all before after =
-    AllPairs-append Apart (b ∷ []) (front ++ c ∷ back) (AllPairs-single Apart b) (pairs-inserted front c back (AllPairs-rest Apart b (front ++ back) all) (λ d has. before d (Contains-tail b d front has)) after)
+    AllPairs-append Apart (b ∷ []) (front ++ c ∷ back) (AllPairs-single Apart b) (pairs-inserted front c back (AllPairs-rest Apart b (front ++ back) all)
+    (λ d has. before d (Contains-tail b d front has)) after)
     (λ x y one two. ⊎_elim
     (λ here. subst (λ (z : FileCommand). Apart z y) here (⊎_elim
     (λ early. AllPairs-first Apart b y (front ++ back) all (Contains-append_left front back y early))

@@ -33,12 +33,14 @@ part-block block b (commands.ListLine name entry) is = absurd (false≢true (sub
 part-block block b (commands.PrefixLine name number entry) is = absurd (false≢true (subst (λ (q : Part). is_same (PrefixLines name) q ≡ true) is (is-self (PrefixLines name))))
 part-block block b _ is = eqb-true block b (subst (λ (q : Part). is_same (Block block) q ≡ true) is (is-self (Block block)))
 
-first-member : (n : ℕ) (cs : List FileCommand) (head : FileCommand) (p : Part) → Rising n cs → Contains cs head → part_of head ≡ p → ((d : FileCommand) → Contains cs d → part_of d ≡ p → head.line ≤ d.line) →
+first-member : (n : ℕ) (cs : List FileCommand) (head : FileCommand) (p : Part) → Rising n cs → Contains cs head → part_of head ≡ p →
+    ((d : FileCommand) → Contains cs d → part_of d ≡ p → head.line ≤ d.line) →
     (rest : List FileCommand) × (members cs p ≡ head ∷ rest)
 first-member n [] head p up has own low = absurd (Contains-none head has)
 first-member n (c ∷ cs) head p up has own low = ⊎_elim
     (λ same. (members cs p, cond-true (is_same p (part_of c)) (c ∷ members cs p) (members cs p) same ∙ ap (λ (d : FileCommand). d ∷ members cs p) (is-head ((is_same-Decides p (part_of c)).0 same))))
-    (λ other. let deeper = first-member (c.line + 1) cs head p up.1 (later other) own (λ d there is. low d (Contains-tail c d cs there) is) in (deeper.0, cond-false (is_same p (part_of c)) (c ∷ members cs p) (members cs p) other ∙ deeper.1))
+    (λ other. let deeper = first-member (c.line + 1) cs head p up.1 (later other) own
+    (λ d there is. low d (Contains-tail c d cs there) is) in (deeper.0, cond-false (is_same p (part_of c)) (c ∷ members cs p) (members cs p) other ∙ deeper.1))
     (cases_Bool (is_same p (part_of c)))
   where
     is-head : p ≡ part_of c → c ≡ head
@@ -71,17 +73,21 @@ one-more-command place c cs split = subst (λ (ds : List FileCommand). HasOneMor
   where
     keeps : (e : FileCommand) → Contains cs e → Contains (map (command_moved place) split.front ++ c ∷ map (command_moved place) split.back) (command_moved place e)
     keeps e there = ⊎_elim
-        (λ early. Contains-append_left (map (command_moved place) split.front) (c ∷ map (command_moved place) split.back) (command_moved place e) (Contains-map (command_moved place) split.front e early))
-        (λ late. Contains-append_right (map (command_moved place) split.front) (c ∷ map (command_moved place) split.back) (command_moved place e) (Contains-tail c (command_moved place e) (map (command_moved place) split.back) (Contains-map (command_moved place) split.back e late)))
+        (λ early. Contains-append_left (map (command_moved place) split.front) (c ∷ map (command_moved place) split.back) (command_moved place e)
+        (Contains-map (command_moved place) split.front e early))
+        (λ late. Contains-append_right (map (command_moved place) split.front) (c ∷ map (command_moved place) split.back) (command_moved place e)
+        (Contains-tail c (command_moved place e) (map (command_moved place) split.back) (Contains-map (command_moved place) split.back e late)))
         (Contains-append_cases split.front split.back e (subst (λ (l : List FileCommand). Contains l e) split.parts there))
 
     has : Contains (map (command_moved place) split.front ++ c ∷ map (command_moved place) split.back) c
     has = Contains-append_right (map (command_moved place) split.front) (c ∷ map (command_moved place) split.back) c (Contains-head c (map (command_moved place) split.back))
 
-    old : (l : List FileCommand) (d : FileCommand) → ((e : FileCommand) → Contains l e → Contains cs e) → Contains (map (command_moved place) l) d → (e : FileCommand) × Contains cs e × (command_moved place e ≡ d)
+    old : (l : List FileCommand) (d : FileCommand) → ((e : FileCommand) → Contains l e → Contains cs e) → Contains (map (command_moved place) l) d →
+        (e : FileCommand) × Contains cs e × (command_moved place e ≡ d)
     old l d inside there = let r = from_map (command_moved place) l d there in (r.0, inside r.0 r.1, r.2)
 
-    others : (d : FileCommand) → Contains (map (command_moved place) split.front ++ c ∷ map (command_moved place) split.back) d → (d ≡ c) ⊎ ((e : FileCommand) × Contains cs e × (command_moved place e ≡ d))
+    others : (d : FileCommand) → Contains (map (command_moved place) split.front ++ c ∷ map (command_moved place) split.back) d →
+        (d ≡ c) ⊎ ((e : FileCommand) × Contains cs e × (command_moved place e ≡ d))
     others d there = ⊎_elim
         (λ early. inr (old split.front d (λ e i. subst (λ (l : List FileCommand). Contains l e) (sym split.parts) (Contains-append_left split.front split.back e i)) early))
         (λ late. ⊎_elim

@@ -20,7 +20,8 @@ use Rattle.ios_words.specs.Laws.{heads_block}
 use Rattle.ios_words.proofs.Heads.{heads-top}
 use Rattle.ios_config.specs.declared.commands.FileCommand.{FileCommand}
 use Rattle.ios_config.specs.Commands.{opened_by}
-use Rattle.ios_config.specs.Inserted.{numbered_marks, command_marks, MarkOpens, IsMarkRead, AreMarksRead, HasOneMore, command_at, IsPut, HaveLines, Opened, AnInnerLineAddsItsCommand, AHeadAddsItsCommand, ASingleLineAddsItsCommand, AClosingLineAddsNone}
+use Rattle.ios_config.specs.Inserted.{numbered_marks, command_marks, MarkOpens, IsMarkRead, AreMarksRead, HasOneMore, command_at}
+use Rattle.ios_config.specs.Inserted.{IsPut, HaveLines, Opened, AnInnerLineAddsItsCommand, AHeadAddsItsCommand, ASingleLineAddsItsCommand, AClosingLineAddsNone}
 use Rattle.ios_config.proofs.MarkCommands.{commands-of-marks}
 use Rattle.ios_config.proofs.InsertedCommands.{an-inert-line, an-inserted-line, still-opens}
 
@@ -81,7 +82,8 @@ inner-adds old new lines more commands place line within command put have is o r
     let low = block-low old new lines more commands place line put have in
     let one = one-more old new lines more commands place line put have in
     let opens : MarkOpens (marks_of new more) block within =
-    subst (λ n. MarkOpens (marks_of new more) n within) (moved-low place block low) (still-opens place (m old new lines more commands place line put have) (marks_of old lines) (marks_of new more) one.rows block within
+    subst (λ n. MarkOpens (marks_of new more) n within) (moved-low place block low) (still-opens place (m old new lines more commands place line put have)
+    (marks_of old lines) (marks_of new more) one.rows block within
     (head-opens (marks_of old lines) commands block within (read-old old new lines more commands place line put have) o)) in
     an-inserted-line old new lines more place (m old new lines more commands place line put have) (command_at (place + 1) block command) commands one
     (ap is_inert is) (record {
@@ -102,7 +104,8 @@ head-adds old new lines more commands place line command put have is reads =
       line = refl;
       block = ap (λ k. block_after k (place + 1) block) (sym is);
       within = kinds.Top;
-      stands = subst (λ k. MatchBool (is_head k || (block_after k (place + 1) block == 0)) (kinds.Top ≡ kinds.Top) (MarkOpens (marks_of new more) (block_after k (place + 1) block) kinds.Top)) (sym is) refl;
+      stands = subst (λ k. MatchBool (is_head k || (block_after k (place + 1) block == 0)) (kinds.Top ≡ kinds.Top)
+          (MarkOpens (marks_of new more) (block_after k (place + 1) block) kinds.Top)) (sym is) refl;
       reads = reads;
     }) have.reads
 
@@ -115,7 +118,8 @@ single-adds old new lines more commands place line command put have is reads =
       line = refl;
       block = ap (λ k. block_after k (place + 1) block) (sym is);
       within = kinds.Top;
-      stands = subst (λ k. MatchBool (is_head k || (block_after k (place + 1) block == 0)) (kinds.Top ≡ kinds.Top) (MarkOpens (marks_of new more) (block_after k (place + 1) block) kinds.Top)) (sym is) refl;
+      stands = subst (λ k. MatchBool (is_head k || (block_after k (place + 1) block == 0)) (kinds.Top ≡ kinds.Top)
+          (MarkOpens (marks_of new more) (block_after k (place + 1) block) kinds.Top)) (sym is) refl;
       reads = reads;
     }) have.reads
 

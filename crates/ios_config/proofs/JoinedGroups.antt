@@ -13,8 +13,10 @@ use Rattle.ios_config.proofs.JoinedParts.{part-moved, same-moved, distinct-old, 
 use Rattle.ios_config.proofs.PartLists.{neither}
 
 -- the members of a part whose number is moved
-member-step : (place : ℕ) (part : Part) (d : FileCommand) (ds : List FileCommand) (b : Bool) → members (map (command_moved place) ds) (part_moved place part) ≡ map (command_moved place) (members ds part) →
-    cond b (command_moved place d ∷ members (map (command_moved place) ds) (part_moved place part)) (members (map (command_moved place) ds) (part_moved place part)) ≡ map (command_moved place) (cond b (d ∷ members ds part) (members ds part))
+member-step : (place : ℕ) (part : Part) (d : FileCommand) (ds : List FileCommand) (b : Bool) →
+    members (map (command_moved place) ds) (part_moved place part) ≡ map (command_moved place) (members ds part) →
+    cond b (command_moved place d ∷ members (map (command_moved place) ds) (part_moved place part)) (members (map (command_moved place) ds) (part_moved place part)) ≡ map
+    (command_moved place) (cond b (d ∷ members ds part) (members ds part))
 member-step place part d ds true rest = ap (λ r. command_moved place d ∷ r) rest
 member-step place part d ds false rest = rest
 
@@ -30,20 +32,24 @@ parts-moved : (place : ℕ) (ds : List FileCommand) → map part_of (map (comman
 parts-moved place [] = refl
 parts-moved place (d ∷ ds) = ap (λ p. p ∷ map part_of (map (command_moved place) ds)) (part-moved place d) ∙ ap (λ ps. part_moved place (part_of d) ∷ ps) (parts-moved place ds)
 
-members-between : (place : ℕ) (front : List FileCommand) (c : FileCommand) (back : List FileCommand) (p : Part) (b : Bool) → is_same (part_moved place p) (part_of c) ≡ b → members (between place front c back) (part_moved place p) ≡ members_with place front c back p b
+members-between : (place : ℕ) (front : List FileCommand) (c : FileCommand) (back : List FileCommand) (p : Part) (b : Bool) →
+    is_same (part_moved place p) (part_of c) ≡ b → members (between place front c back) (part_moved place p) ≡ members_with place front c back p b
 members-between place front c back p true is =
     filter-append (λ d. is_same (part_moved place p) (part_of d)) (map (command_moved place) front) (c ∷ map (command_moved place) back)
-    ∙ ap (λ r. members (map (command_moved place) front) (part_moved place p) ++ r) (cond-true (is_same (part_moved place p) (part_of c)) (c ∷ members (map (command_moved place) back) (part_moved place p)) _ is)
+    ∙ ap (λ r. members (map (command_moved place) front) (part_moved place p) ++ r)
+    (cond-true (is_same (part_moved place p) (part_of c)) (c ∷ members (map (command_moved place) back) (part_moved place p)) _ is)
     ∙ ap (λ r. r ++ c ∷ members (map (command_moved place) back) (part_moved place p)) (members-moved place p front)
     ∙ ap (λ r. map (command_moved place) (members front p) ++ c ∷ r) (members-moved place p back)
 members-between place front c back p false is =
     filter-append (λ d. is_same (part_moved place p) (part_of d)) (map (command_moved place) front) (c ∷ map (command_moved place) back)
-    ∙ ap (λ r. members (map (command_moved place) front) (part_moved place p) ++ r) (cond-false (is_same (part_moved place p) (part_of c)) (c ∷ members (map (command_moved place) back) (part_moved place p)) _ is)
+    ∙ ap (λ r. members (map (command_moved place) front) (part_moved place p) ++ r)
+    (cond-false (is_same (part_moved place p) (part_of c)) (c ∷ members (map (command_moved place) back) (part_moved place p)) _ is)
     ∙ ap (λ r. r ++ members (map (command_moved place) back) (part_moved place p)) (members-moved place p front)
     ∙ ap (λ r. map (command_moved place) (members front p) ++ r) (members-moved place p back)
     ∙ sym (ap (map (command_moved place)) (filter-append (λ d. is_same p (part_of d)) front back) ∙ map-append (command_moved place) (members front p) (members back p))
 
-parts-between : (place : ℕ) (front : List FileCommand) (c : FileCommand) (back : List FileCommand) → map part_of (between place front c back) ≡ map (part_moved place) (map part_of front) ++ part_of c ∷ map (part_moved place) (map part_of back)
+parts-between : (place : ℕ) (front : List FileCommand) (c : FileCommand) (back : List FileCommand) →
+    map part_of (between place front c back) ≡ map (part_moved place) (map part_of front) ++ part_of c ∷ map (part_moved place) (map part_of back)
 parts-between place front c back =
     map-append part_of (map (command_moved place) front) (c ∷ map (command_moved place) back)
     ∙ ap (λ ps. ps ++ part_of c ∷ map part_of (map (command_moved place) back)) (parts-moved place front)
@@ -65,7 +71,8 @@ parts-stay place before after part (inr (rest, is)) =
     ∙ ap distinct (sym (map-append (part_moved place) before (part ∷ rest))) ∙ distinct-moved place (before ++ part ∷ rest)
     ∙ ap (λ ps. map (part_moved place) (distinct (before ++ ps))) (sym is)
 
-pub beside-parts : (part : Part) (front back : List FileCommand) → StandsBeside part front back → (list_any (is_same part) (map part_of front) ≡ true) ⊎ ((rest : List Part) × (map part_of back ≡ part ∷ rest))
+pub beside-parts : (part : Part) (front back : List FileCommand) → StandsBeside part front back →
+    (list_any (is_same part) (map part_of front) ≡ true) ⊎ ((rest : List Part) × (map part_of back ≡ part ∷ rest))
 beside-parts part front back (inl has) = inl has
 beside-parts part front back (inr (next, rest, is, same)) = inr (map part_of rest, ap (map part_of) is ∙ ap (λ p. p ∷ map part_of rest) same)
 
@@ -88,13 +95,15 @@ none-members part (d ∷ ds) none =
     cond-false (is_same part (part_of d)) (d ∷ members ds part) (members ds part) parts.0 ∙ none-members part ds parts.1
 
 -- a part that is not that of the new command has the members that it had
-members-other : (part : Part) (front : List FileCommand) (c : FileCommand) (back : List FileCommand) → is_same part (part_of c) ≡ false → members (front ++ c ∷ back) part ≡ members (front ++ back) part
+members-other : (part : Part) (front : List FileCommand) (c : FileCommand) (back : List FileCommand) → is_same part (part_of c) ≡ false →
+    members (front ++ c ∷ back) part ≡ members (front ++ back) part
 members-other part front c back other =
     filter-append (λ d. is_same part (part_of d)) front (c ∷ back)
     ∙ ap (λ r. members front part ++ r) (cond-false (is_same part (part_of c)) (c ∷ members back part) (members back part) other)
     ∙ sym (filter-append (λ d. is_same part (part_of d)) front back)
 
-members-new : (front : List FileCommand) (c : FileCommand) (back : List FileCommand) → list_any (is_same (part_of c)) (map part_of (front ++ back)) ≡ false → members (front ++ c ∷ back) (part_of c) ≡ c ∷ []
+members-new : (front : List FileCommand) (c : FileCommand) (back : List FileCommand) → list_any (is_same (part_of c)) (map part_of (front ++ back)) ≡ false →
+    members (front ++ c ∷ back) (part_of c) ≡ c ∷ []
 members-new front c back none =
     let parts = any-append (is_same (part_of c)) (map part_of front) (map part_of back) (sym (ap (list_any (is_same (part_of c))) (map-append part_of front back)) ∙ none) in
     filter-append (λ d. is_same (part_of c) (part_of d)) front (c ∷ back)

@@ -53,7 +53,8 @@ same-moved place (PrefixLines a) (Lines b) = refl
 same-moved place (PrefixLines a) (PrefixLines b) = refl
 
 -- what is left of a list by two tests, in either order
-filter-twice : (p q : Part → Bool) (x : Part) (xs : List Part) (a b : Bool) → p x ≡ a → q x ≡ b → filter p (filter q xs) ≡ filter q (filter p xs) → filter p (filter q (x ∷ xs)) ≡ filter q (filter p (x ∷ xs))
+filter-twice : (p q : Part → Bool) (x : Part) (xs : List Part) (a b : Bool) → p x ≡ a → q x ≡ b → filter p (filter q xs) ≡ filter q (filter p xs) →
+    filter p (filter q (x ∷ xs)) ≡ filter q (filter p (x ∷ xs))
 filter-twice p q x xs true true one two rest =
     ap (filter p) (cond-true (q x) (x ∷ filter q xs) (filter q xs) two) ∙ cond-true (p x) (x ∷ filter p (filter q xs)) (filter p (filter q xs)) one ∙ ap (λ r. x ∷ r) rest
     ∙ sym (ap (filter q) (cond-true (p x) (x ∷ filter p xs) (filter p xs) one) ∙ cond-true (q x) (x ∷ filter q (filter p xs)) (filter q (filter p xs)) two)
@@ -85,7 +86,8 @@ is-self p = (is_same-Decides p p).1 refl
 
 -- a part that stands among others is the same as none where it is left aside
 others-once : (y : Part) (xs zs : List Part) → others y (distinct (xs ++ y ∷ zs)) ≡ others y (distinct (xs ++ zs))
-others-once y [] zs = cond-false (not (is_same y y)) (y ∷ others y (others y (distinct zs))) (others y (others y (distinct zs))) (ap not (is-self y)) ∙ filter-again (λ q. not (is_same y q)) (distinct zs)
+others-once y [] zs = cond-false (not (is_same y y)) (y ∷ others y (others y (distinct zs))) (others y (others y (distinct zs))) (ap not (is-self y))
+    ∙ filter-again (λ q. not (is_same y q)) (distinct zs)
 others-once y (x ∷ xs) zs =
     let test : Part → Bool = λ q. not (is_same y q) in
     let inner : others y (others x (distinct (xs ++ y ∷ zs))) ≡ others y (others x (distinct (xs ++ zs))) =
@@ -118,7 +120,8 @@ distinct-next y xs zs = ap distinct (sym (append_assoc xs (y ∷ []) (y ∷ zs))
 
 -- the parts with their numbers moved
 others-step : (place : ℕ) (p x : Part) (xs : List Part) (b : Bool) → filter (λ q. not (is_same (part_moved place p) q)) (map (part_moved place) xs) ≡ map (part_moved place) (others p xs) →
-    cond b (part_moved place x ∷ filter (λ q. not (is_same (part_moved place p) q)) (map (part_moved place) xs)) (filter (λ q. not (is_same (part_moved place p) q)) (map (part_moved place) xs)) ≡ map (part_moved place) (cond b (x ∷ others p xs) (others p xs))
+    cond b (part_moved place x ∷ filter (λ q. not (is_same (part_moved place p) q)) (map (part_moved place) xs))
+    (filter (λ q. not (is_same (part_moved place p) q)) (map (part_moved place) xs)) ≡ map (part_moved place) (cond b (x ∷ others p xs) (others p xs))
 others-step place p x xs true rest = ap (λ r. part_moved place x ∷ r) rest
 others-step place p x xs false rest = rest
 

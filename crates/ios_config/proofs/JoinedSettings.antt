@@ -67,7 +67,8 @@ stands-once part (p ∷ ps) has = ⊎_elim
     })
     (cases_Bool (is_same part p))
 
-any-step : (p : Part → Bool) (x : Part) (xs ys : List Part) (b : Bool) → p x ≡ b → list_any p (x ∷ xs) ≡ true → (list_any p xs ≡ true → list_any p (xs ++ ys) ≡ true) → list_any p (x ∷ (xs ++ ys)) ≡ true
+any-step : (p : Part → Bool) (x : Part) (xs ys : List Part) (b : Bool) → p x ≡ b → list_any p (x ∷ xs) ≡ true →
+    (list_any p xs ≡ true → list_any p (xs ++ ys) ≡ true) → list_any p (x ∷ (xs ++ ys)) ≡ true
 any-step p x xs ys true is has rest = ap (λ b. b || list_any p (xs ++ ys)) is
 any-step p x xs ys false is has rest = ap (λ b. b || list_any p (xs ++ ys)) is ∙ rest (sym (ap (λ b. b || list_any p xs) is) ∙ has)
 
@@ -93,7 +94,8 @@ bare-moved place cs = map-map bare (command_moved place) cs
 pub joins-one : ACommandJoinsOneGroup
 joins-one place front c back part is beside =
     let all = front ++ back in
-    let there : list_any (is_same part) (map part_of all) ≡ true = ap (list_any (is_same part)) (map-append part_of front back) ∙ beside-any part (map part_of front) (map part_of back) (beside-parts part front back beside) in
+    let there : list_any (is_same part) (map part_of all) ≡ true =
+    ap (list_any (is_same part)) (map-append part_of front back) ∙ beside-any part (map part_of front) (map part_of back) (beside-parts part front back beside) in
     let once = stands-once part (map part_of all) there in
     let old : Part → List FileCommand = λ p. map bare (members all p) in
     let new : Part → List FileCommand = λ p. map bare (members_with place front c back p (is_same p part)) in
@@ -117,7 +119,8 @@ joins-one place front c back part is beside =
     }
 
 -- what groups set, of which one is another
-one-other : (h k : Option Setting) (before after gs hs : List (List FileCommand)) (group other : List FileCommand) → gs ≡ before ++ group ∷ after → hs ≡ before ++ other ∷ after → HasOneOther (config_from h gs) (config_from k hs) group other
+one-other : (h k : Option Setting) (before after gs hs : List (List FileCommand)) (group other : List FileCommand) → gs ≡ before ++ group ∷ after →
+    hs ≡ before ++ other ∷ after → HasOneOther (config_from h gs) (config_from k hs) group other
 one-other h k before after gs hs group other old new = record {
   faces_before = flat_map face_of before;
   faces_after = flat_map face_of after;
@@ -139,7 +142,8 @@ one-sets-other place front c back part is beside =
     let group = map bare (members (front ++ back) part) in
     let other = map bare (members front part) ++ bare c ∷ map bare (members back part) in
     subst (λ (x : Config). HasOneOther x (bare_config (config_of (between place front c back))) group other) (sym (bare-groups-set (front ++ back)))
-    (subst (λ (x : Config). HasOneOther (config_from (option_map bare_setting (router_name (front ++ back))) (bare_groups (front ++ back))) x group other) (sym (bare-groups-set (between place front c back)))
+    (subst (λ (x : Config). HasOneOther (config_from (option_map bare_setting (router_name (front ++ back))) (bare_groups (front ++ back))) x group other)
+    (sym (bare-groups-set (between place front c back)))
     (one-other _ _ joined.before joined.after _ _ group other joined.old joined.new))
 
 -- the same of commands that are split at a place
@@ -156,7 +160,8 @@ split-sets-other place commands split c part is beside =
     (one-sets-other place split.front c split.back part is beside)))
 
 -- what groups set, with one group more
-one-more : (h k : Option Setting) (before after gs hs : List (List FileCommand)) (other : List FileCommand) → gs ≡ before ++ after → hs ≡ before ++ other ∷ after → HasOneOther (config_from h gs) (config_from k hs) [] other
+one-more : (h k : Option Setting) (before after gs hs : List (List FileCommand)) (other : List FileCommand) → gs ≡ before ++ after →
+    hs ≡ before ++ other ∷ after → HasOneOther (config_from h gs) (config_from k hs) [] other
 one-more h k before after gs hs other old new = record {
   faces_before = flat_map face_of before;
   faces_after = flat_map face_of after;
@@ -176,9 +181,12 @@ pub new-sets-own : ANewGroupSetsItsOwn
 new-sets-own place front c back none =
     let begun = begins-group place front c back none in
     let old : bare_groups (front ++ back) ≡ map (map bare) begun.before ++ map (map bare) begun.after =
-    same-map (map bare) (λ g. map bare (map (command_moved place) g)) (groups (front ++ back)) (λ g. sym (bare-moved place g)) ∙ sym (map-map (map bare) (map (command_moved place)) (groups (front ++ back)))
+    same-map (map bare) (λ g. map bare (map (command_moved place) g)) (groups (front ++ back)) (λ g. sym (bare-moved place g)) ∙ sym (map-map (map bare)
+    (map (command_moved place)) (groups (front ++ back)))
     ∙ ap (map (map bare)) begun.old ∙ map-append (map bare) begun.before begun.after in
-    let new : bare_groups (between place front c back) ≡ map (map bare) begun.before ++ (bare c ∷ []) ∷ map (map bare) begun.after = ap (map (map bare)) begun.new ∙ map-append (map bare) begun.before ((c ∷ []) ∷ begun.after) in
+    let new : bare_groups (between place front c back) ≡ map (map bare) begun.before ++ (bare c ∷ []) ∷ map (map bare) begun.after =
+    ap (map (map bare)) begun.new ∙ map-append (map bare) begun.before ((c ∷ []) ∷ begun.after) in
     subst (λ (x : Config). HasOneOther x (bare_config (config_of (between place front c back))) [] (bare c ∷ [])) (sym (bare-groups-set (front ++ back)))
-    (subst (λ (x : Config). HasOneOther (config_from (option_map bare_setting (router_name (front ++ back))) (bare_groups (front ++ back))) x [] (bare c ∷ [])) (sym (bare-groups-set (between place front c back)))
+    (subst (λ (x : Config). HasOneOther (config_from (option_map bare_setting (router_name (front ++ back))) (bare_groups (front ++ back))) x [] (bare c ∷ []))
+    (sym (bare-groups-set (between place front c back)))
     (one-more _ _ (map (map bare) begun.before) (map (map bare) begun.after) _ _ (bare c ∷ []) old new))

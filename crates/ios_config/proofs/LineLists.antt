@@ -1,5 +1,6 @@
 -- The commands of a list of lines, and what a line more does to them.
-use Rattle.std.proofs.Common.{◌≡◌, ◌≢◌, ℕ, ◌+◌, ◌<◌, ◌≤◌, ◌==◌, ◌||◌, not, true, false, List, [], length, length-take-le, map, take, slice_get, get_or, Some, None, refl, sym, ap, subst, ◌∙◌, arith, Contains, MatchBool}
+use Rattle.std.proofs.Common.{◌≡◌, ◌≢◌, ℕ, ◌+◌, ◌<◌, ◌≤◌, ◌==◌, ◌||◌, not, true, false, List, [], length}
+use Rattle.std.proofs.Common.{length-take-le, map, take, slice_get, get_or, Some, None, refl, sym, ap, subst, ◌∙◌, arith, Contains, MatchBool}
 use Rattle.std.proofs.lemmas.Bool.{ne_eqb}
 use Rattle.std.proofs.lemmas.List.{length-map}
 use Rattle.std.proofs.lemmas.Option.{same_Some, slice_get-map, slice_get_within}
@@ -65,7 +66,8 @@ inner-in lines commands place line within command are may is o reads =
     let after = marks_in (inserted place line lines) in
     let opens : MarkOpens after block within =
     subst (λ n. MarkOpens after n within) (moved-low place block (low-block lines commands place line are may))
-    (still-opens place (m lines commands place line are may) (marks_in lines) after (marks-more lines commands place line are may) block within (head-opens (marks_in lines) commands block within are.reads o)) in
+    (still-opens place (m lines commands place line are may) (marks_in lines) after (marks-more lines commands place line are may) block within
+    (head-opens (marks_in lines) commands block within are.reads o)) in
     add lines commands place line are may (ap is_inert is) (command_at (place + 1) block command) (record {
       line = refl;
       block = ap (λ k. block_after k (place + 1) block) (sym is);

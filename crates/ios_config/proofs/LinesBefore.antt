@@ -1,5 +1,6 @@
 -- A line that is put before another, over lists of lines.
-use Rattle.std.proofs.Common.{◌≡◌, ◌≢◌, ℕ, ◌+◌, ◌<◌, ◌≤◌, Bool, true, false, cond, List, [], ◌∷◌, ◌++◌, length, filter, take, None, refl, sym, ap, subst, ◌∙◌, arith, ⊎_elim, inl, inr, Contains, IsTrue}
+use Rattle.std.proofs.Common.{◌≡◌, ◌≢◌, ℕ, ◌+◌, ◌<◌, ◌≤◌, Bool, true, false, cond, List, [], ◌∷◌, ◌++◌}
+use Rattle.std.proofs.Common.{length, filter, take, None, refl, sym, ap, subst, ◌∙◌, arith, ⊎_elim, inl, inr, Contains, IsTrue}
 use Rattle.std.proofs.lemmas.Bool.{cases_Bool}
 use Rattle.std.proofs.lemmas.List.Elements.{Contains-append_cases}
 use Rattle.std.specs.List.{AllZip, AllByRecursion, enumerate_from}
@@ -61,7 +62,8 @@ pub rising-lower : (n m : ℕ) (cs : List FileCommand) → m ≤ n → Rising n 
 rising-lower n m [] low up = tt
 rising-lower n m (c ∷ cs) low up = let first : n ≤ c.line = up.0 in (omega arith, up.1)
 
-rising-step : (marks : List Mark) (n : ℕ) (m : Mark) (ms : List Mark) (cs : List FileCommand) (b : Bool) → ((ds : List FileCommand) → AllZip (IsMarkRead marks) (filter says (enumerate_from (n + 1) ms)) ds → Rising (n + 1) ds) →
+rising-step : (marks : List Mark) (n : ℕ) (m : Mark) (ms : List Mark) (cs : List FileCommand) (b : Bool) →
+    ((ds : List FileCommand) → AllZip (IsMarkRead marks) (filter says (enumerate_from (n + 1) ms)) ds → Rising (n + 1) ds) →
     AllZip (IsMarkRead marks) (cond b ((n, m) ∷ filter says (enumerate_from (n + 1) ms)) (filter says (enumerate_from (n + 1) ms))) cs → Rising n cs
 rising-step marks n m ms cs false deeper all = rising-lower (n + 1) n cs (omega arith) (deeper cs all)
 rising-step marks n m ms [] true deeper all = tt
@@ -85,7 +87,8 @@ rising-low n (c ∷ cs) d up has = ⊎_elim
     (Contains-cases c d cs has)
 
 -- the command of the next line is the first of those of later ones
-first-is : (k place : ℕ) (cs : List FileCommand) (next : FileCommand) → Rising k cs → AllByRecursion (λ (d : FileCommand). place < d.line) cs → Contains cs next → next.line ≡ place + 1 → (rest : List FileCommand) × (cs ≡ next ∷ rest)
+first-is : (k place : ℕ) (cs : List FileCommand) (next : FileCommand) → Rising k cs → AllByRecursion (λ (d : FileCommand). place < d.line) cs →
+    Contains cs next → next.line ≡ place + 1 → (rest : List FileCommand) × (cs ≡ next ∷ rest)
 first-is k place [] next up high has is = absurd (Contains-none next has)
 first-is k place (d ∷ rest) next up high has is = (
   rest,

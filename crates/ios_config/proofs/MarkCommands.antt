@@ -24,7 +24,8 @@ enumerate-map text n (row ∷ rows) = ap (λ rest. (n, mark_of text row) ∷ res
 opens-mark : (text : List ℕ) (lines : Lines) (number : ℕ) (kind : BlockKind) → Opens text lines number kind → MarkOpens (marks_of text lines) number kind
 opens-mark text lines number kind o = record {
   head = mark_of text o.head;
-  at_number = subst (λ (ls : List (ℕ × Mark)). Contains ls (number, mark_of text o.head)) (sym (enumerate-map text 1 lines.rows)) (Contains-map (numbered_mark text) (numbered lines) (number, o.head) o.at_number);
+  at_number = subst (λ (ls : List (ℕ × Mark)). Contains ls (number, mark_of text o.head)) (sym (enumerate-map text 1 lines.rows))
+      (Contains-map (numbered_mark text) (numbered lines) (number, o.head) o.at_number);
   command = o.command;
   reads = o.reads;
   opens = o.opens;
@@ -43,11 +44,13 @@ mark-opens text lines number kind o =
       opens = o.opens;
     }
 
-within-mark : (b : Bool) (text : List ℕ) (lines : Lines) (block : ℕ) (kind : BlockKind) → MatchBool b (kind ≡ kinds.Top) (Opens text lines block kind) → MatchBool b (kind ≡ kinds.Top) (MarkOpens (marks_of text lines) block kind)
+within-mark : (b : Bool) (text : List ℕ) (lines : Lines) (block : ℕ) (kind : BlockKind) → MatchBool b (kind ≡ kinds.Top) (Opens text lines block kind) →
+    MatchBool b (kind ≡ kinds.Top) (MarkOpens (marks_of text lines) block kind)
 within-mark true text lines block kind is = is
 within-mark false text lines block kind is = opens-mark text lines block kind is
 
-mark-within : (b : Bool) (text : List ℕ) (lines : Lines) (block : ℕ) (kind : BlockKind) → MatchBool b (kind ≡ kinds.Top) (MarkOpens (marks_of text lines) block kind) → MatchBool b (kind ≡ kinds.Top) (Opens text lines block kind)
+mark-within : (b : Bool) (text : List ℕ) (lines : Lines) (block : ℕ) (kind : BlockKind) →
+    MatchBool b (kind ≡ kinds.Top) (MarkOpens (marks_of text lines) block kind) → MatchBool b (kind ≡ kinds.Top) (Opens text lines block kind)
 mark-within true text lines block kind is = is
 mark-within false text lines block kind is = mark-opens text lines block kind is
 
@@ -59,7 +62,8 @@ mark-read text lines l c r = record { line = r.line; block = r.block; within = r
 
 -- the rows that say something, and what they say
 filter-step : (text : List ℕ) (l : ℕ × Line) (ls : List (ℕ × Line)) (b : Bool) → filter (λ m. not m.1.inert) (map (numbered_mark text) ls) ≡ map (numbered_mark text) (filter (λ m. not m.1.inert) ls) →
-    cond b (numbered_mark text l ∷ filter (λ m. not m.1.inert) (map (numbered_mark text) ls)) (filter (λ m. not m.1.inert) (map (numbered_mark text) ls)) ≡ map (numbered_mark text) (cond b (l ∷ filter (λ m. not m.1.inert) ls) (filter (λ m. not m.1.inert) ls))
+    cond b (numbered_mark text l ∷ filter (λ m. not m.1.inert) (map (numbered_mark text) ls)) (filter (λ m. not m.1.inert) (map (numbered_mark text) ls)) ≡ map (numbered_mark text)
+    (cond b (l ∷ filter (λ m. not m.1.inert) ls) (filter (λ m. not m.1.inert) ls))
 filter-step text l ls true rest = ap (λ r. numbered_mark text l ∷ r) rest
 filter-step text l ls false rest = rest
 

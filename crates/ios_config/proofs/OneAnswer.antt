@@ -98,7 +98,8 @@ command_head : (x y : FileCommand) (xs ys : List FileCommand) → x ∷ xs ≡ y
 command_head x y xs ys e = cc
 
 -- of two ways to split a list at a command the longer front begins with the shorter one and its command
-longer : (before others : List FileCommand) (c d : FileCommand) (after rest : List FileCommand) → before ++ c ∷ after ≡ others ++ d ∷ rest → length before < length others → (mid : List FileCommand) × (others ≡ before ++ c ∷ mid)
+longer : (before others : List FileCommand) (c d : FileCommand) (after rest : List FileCommand) → before ++ c ∷ after ≡ others ++ d ∷ rest →
+    length before < length others → (mid : List FileCommand) × (others ≡ before ++ c ∷ mid)
 longer [] [] c d after rest split below = absurd (omega (arith, below))
 longer [] (o ∷ others) c d after rest split below = (others, ap (λ (x : FileCommand). x ∷ others) (sym (command_head c o after (others ++ d ∷ rest) split)))
 longer (b ∷ before) [] c d after rest split below = absurd (omega (arith, below))
@@ -127,14 +128,16 @@ one_duplicate commands n m a b = elim (cases_lt (length a.before) (length b.befo
 
 module _ (text : List ℕ) (lines : Lines) where
   -- a line that is read is no faulty one
-  read_or_fault : (number : ℕ) (line : Line) (c : FileCommand) (within : BlockKind) (kind : Kind) → IsReadAs text lines (number, line) c → IsWithin text lines line within → IsNoCommand text line within kind → ⊥
+  read_or_fault : (number : ℕ) (line : Line) (c : FileCommand) (within : BlockKind) (kind : Kind) → IsReadAs text lines (number, line) c →
+      IsWithin text lines line within → IsNoCommand text line within kind → ⊥
   read_or_fault number line c within kind read stands none =
       let same : read.within ≡ within = within_one text lines line read.within within read.stands stands in
       let P : BlockKind → Type 0 = λ k. Reads text line k c.command in
       command_or_none text line within c.command kind (subst P same read.reads) none
 
   -- a faulty line among lines that are read
-  fault_among : (before : List (ℕ × Line)) (number : ℕ) (line : Line) (after : List (ℕ × Line)) (commands : List FileCommand) (within : BlockKind) (kind : Kind) → AllZip (IsReadAs text lines) (before ++ (number, line) ∷ after) commands → IsWithin text lines line within → IsNoCommand text line within kind → ⊥
+  fault_among : (before : List (ℕ × Line)) (number : ℕ) (line : Line) (after : List (ℕ × Line)) (commands : List FileCommand) (within : BlockKind) (kind : Kind) →
+      AllZip (IsReadAs text lines) (before ++ (number, line) ∷ after) commands → IsWithin text lines line within → IsNoCommand text line within kind → ⊥
   fault_among [] number line after [] within kind read stands none = read
   fault_among [] number line after (c ∷ commands) within kind read stands none = read_or_fault number line c within kind read.0 stands none
   fault_among (l ∷ before) number line after [] within kind read stands none = read
@@ -175,7 +178,8 @@ module _ (text : List ℕ) (lines : Lines) where
   faults_one (b ∷ before) (o ∷ others) n m line other after rest [] ds in_line in_other k l split of_cs of_ds stands places none nothing = absurd of_cs
   faults_one (b ∷ before) (o ∷ others) n m line other after rest (c ∷ cs) [] in_line in_other k l split of_cs of_ds stands places none nothing = absurd of_ds
   faults_one (b ∷ before) (o ∷ others) n m line other after rest (c ∷ cs) (d ∷ ds) in_line in_other k l split of_cs of_ds stands places none nothing =
-      faults_one before others n m line other after rest cs ds in_line in_other k l (tail_of b o (before ++ (n, line) ∷ after) (others ++ (m, other) ∷ rest) split) of_cs.1 of_ds.1 stands places none nothing
+      faults_one before others n m line other after rest cs ds in_line in_other k l (tail_of b o (before ++ (n, line) ∷ after) (others ++ (m, other) ∷ rest)
+      split) of_cs.1 of_ds.1 stands places none nothing
 
   fault_or_commands : (n : ℕ) (k : Kind) (commands : List FileCommand) → IsFirstFault text lines n k → AreCommandsOf text lines commands → ⊥
   fault_or_commands n k commands fault read =
@@ -196,7 +200,8 @@ module _ (text : List ℕ) (lines : Lines) where
       is.rising n falls.has
 
   same_refusal : (n m : ℕ) (k l : Kind) → IsRefused text lines n k → IsRefused text lines m l → Both n m k l
-  same_refusal n m k l (inl a) (inl b) = faults_one a.before b.before n m a.line b.line a.after b.after a.commands b.commands a.within b.within k l (sym a.split ∙ b.split) a.read b.read a.stands b.stands a.fault b.fault
+  same_refusal n m k l (inl a) (inl b) = faults_one a.before b.before n m a.line b.line a.after b.after a.commands b.commands a.within b.within k l
+      (sym a.split ∙ b.split) a.read b.read a.stands b.stands a.fault b.fault
   same_refusal n m k l (inl a) (inr (inl (told, b))) = absurd (fault_or_commands n k b.commands a b.read)
   same_refusal n m k l (inl a) (inr (inr (told, b))) = absurd (fault_or_commands n k b.commands a b.read)
   same_refusal n m k l (inr (inl (told, a))) (inl b) = absurd (fault_or_commands m l a.commands b a.read)

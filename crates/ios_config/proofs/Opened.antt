@@ -1,5 +1,6 @@
 -- Which block is open as the lines of a file are read, and of what kind it is.
-use Rattle.std.proofs.Common.{◌≡◌, ◌≢◌, ℕ, zero, suc, ◌+◌, ◌<◌, ◌≤◌, ◌⊎◌, inl, inr, ◌||◌, ◌==◌, not, Bool, true, false, List, [], ◌∷◌, length, get_or, take, filter, Some, None, refl, sym, ◌∙◌, ap, subst, arith, MatchBool, if◌then◌else◌}
+use Rattle.std.proofs.Common.{◌≡◌, ◌≢◌, ℕ, zero, suc, ◌+◌, ◌<◌, ◌≤◌, ◌⊎◌, inl, inr, ◌||◌, ◌==◌, not, Bool, true, false}
+use Rattle.std.proofs.Common.{List, [], ◌∷◌, length, get_or, take, filter, Some, None, refl, sym, ◌∙◌, ap, subst, arith, MatchBool, if◌then◌else◌}
 use Rattle.std.specs.Prelude.{slice_get, slice_index_or, codes, Contains}
 use Rattle.std.specs.List.{enumerate_from}
 use Rattle.std.proofs.lemmas.Bool.{false≢true, cases_lt}

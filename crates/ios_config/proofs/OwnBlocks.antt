@@ -1,5 +1,6 @@
 -- A command that heads a block stands in a block of its own number.
-use Rattle.std.proofs.Common.{◌≡◌, ℕ, zero, suc, ◌+◌, ◌<◌, ◌==◌, ◌⊎◌, ◌||◌, ◌&&◌, inl, inr, not, Bool, true, false, if◌then◌else◌, List, [], ◌∷◌, length, take, slice_get, get_or, Some, None, refl, sym, ap, subst, ◌∙◌, arith, ⊎_elim, Contains, MatchBool, codes}
+use Rattle.std.proofs.Common.{◌≡◌, ℕ, zero, suc, ◌+◌, ◌<◌, ◌==◌, ◌⊎◌, ◌||◌, ◌&&◌, inl, inr, not, Bool, true, false, if◌then◌else◌, List}
+use Rattle.std.proofs.Common.{[], ◌∷◌, length, take, slice_get, get_or, Some, None, refl, sym, ap, subst, ◌∙◌, arith, ⊎_elim, Contains, MatchBool, codes}
 use Rattle.std.proofs.lemmas.Bool.{cases_Bool, false≢true, true≢false, and_parts, eqb-true, eqb-false}
 use Rattle.std.proofs.lemmas.Option.{same_Some, slice_get-map, slice_get_within}
 use Rattle.std.proofs.lemmas.List.{length-map}
@@ -95,7 +96,8 @@ or-cases true b is = inl refl
 or-cases false b is = inr is
 
 -- a top line that opens no block heads none
-single-heads : (ws : List (List ℕ)) (command : Command) → list_any (λ head. starts_with bytes_eq ws head) single_heads ≡ true → ReadBy false ws (rows kinds.Top) command → heads_block command ≡ true → ⊥
+single-heads : (ws : List (List ℕ)) (command : Command) → list_any (λ head. starts_with bytes_eq ws head) single_heads ≡ true →
+    ReadBy false ws (rows kinds.Top) command → heads_block command ≡ true → ⊥
 single-heads ws command single reads is = ⊎_elim
     (λ one. let (r, same) = starts-one ws (codes "hostname") one in named r (subst (λ (x : List (List ℕ)). ReadBy false x (rows kinds.Top) command) same reads))
     (λ more. ⊎_elim
@@ -105,7 +107,8 @@ single-heads ws command single reads is = ⊎_elim
     (λ none. absurd (false≢true none))
     (or-cases (starts_with bytes_eq ws (codes "ip" ∷ codes "prefix-list" ∷ [])) false last))
     (or-cases (starts_with bytes_eq ws (codes "access-list" ∷ [])) (starts_with bytes_eq ws (codes "ip" ∷ codes "prefix-list" ∷ []) || false) more))
-    (or-cases (starts_with bytes_eq ws (codes "hostname" ∷ [])) (starts_with bytes_eq ws (codes "access-list" ∷ []) || (starts_with bytes_eq ws (codes "ip" ∷ codes "prefix-list" ∷ []) || false)) single)
+    (or-cases (starts_with bytes_eq ws (codes "hostname" ∷ []))
+    (starts_with bytes_eq ws (codes "access-list" ∷ []) || (starts_with bytes_eq ws (codes "ip" ∷ codes "prefix-list" ∷ []) || false)) single)
   where
     named : (r : List (List ℕ)) → ReadBy false (codes "hostname" ∷ r) (rows kinds.Top) command → ⊥
     named r reads = none-heads (codes "hostname" ∷ r) command refl reads is
@@ -124,7 +127,8 @@ opens-not ws is = by (list_any (λ head. starts_with bytes_eq ws head) single_he
     by true e = refl
     by false e = absurd (true≢false e)
 
-words-single : (indented : Bool) (ws : List (List ℕ)) (number block : ℕ) → is_inert (words_kind indented ws) ≡ false → is_head (words_kind indented ws) ≡ false → block_after (words_kind indented ws) number block ≡ 0 →
+words-single : (indented : Bool) (ws : List (List ℕ)) (number block : ℕ) → is_inert (words_kind indented ws) ≡ false →
+    is_head (words_kind indented ws) ≡ false → block_after (words_kind indented ws) number block ≡ 0 →
     is_alone (words_kind indented ws) (block_after (words_kind indented ws) number block) ≡ false → opens_block ws ≡ false
 words-single indented [] number block says headless none alone = absurd (true≢false says)
 words-single true (w ∷ r) number block says headless none alone = ⊎_elim
@@ -154,7 +158,8 @@ all-get P (y ∷ xs) (suc k) x all is = all-get P xs k x all.1 is
 -- a command that heads a block has its own number as its block's
 module _ (lines : List (List ℕ)) (cs : List FileCommand) (c : FileCommand) (are : AreCommandsIn lines cs) (among : Contains cs c) (heads_it : heads_block c.command ≡ true) where
   own-by : (place : ℕ) (line : List ℕ) (block : ℕ) → is_alone (kind line) (block_after (kind line) (place + 1) block) ≡ false →
-      (r : IsMarkRead (marks_in lines) (place + 1, mark_seen (seen_in (place + 1) line (kind line) block)) c) → is_inert (kind line) ≡ false → (is_head (kind line) ≡ true → block_after (kind line) (place + 1) block ≡ place + 1) →
+      (r : IsMarkRead (marks_in lines) (place + 1, mark_seen (seen_in (place + 1) line (kind line) block)) c) → is_inert (kind line) ≡ false →
+      (is_head (kind line) ≡ true → block_after (kind line) (place + 1) block ≡ place + 1) →
       block_after (kind line) (place + 1) block ≡ place + 1
   own-by place line block alone r says own = ⊎_elim
       own
@@ -163,10 +168,12 @@ module _ (lines : List (List ℕ)) (cs : List FileCommand) (c : FileCommand) (ar
       let zero_block : block_after (kind line) (place + 1) block ≡ 0 = eqb-true (block_after (kind line) (place + 1) block) 0 none in
       let top : is_head (kind line) || (block_after (kind line) (place + 1) block == 0) ≡ true = ap (λ (t : Bool). t || (block_after (kind line) (place + 1) block == 0)) headless ∙ none in
       let at_top : r.within ≡ kinds.Top = subst (λ (t : Bool). MatchBool t (r.within ≡ kinds.Top) (MarkOpens (marks_in lines) (block_after (kind line) (place + 1) block) r.within)) top r.stands in
-      absurd (single-heads (words line) c.command (opens-not (words line) (words-single (is_indented line) (words line) (place + 1) block says headless zero_block alone)) (subst (λ (w : BlockKind). ReadBy (is_extended_block w) (words line) (rows w) c.command) at_top r.reads) heads_it))
+      absurd (single-heads (words line) c.command (opens-not (words line) (words-single (is_indented line) (words line) (place + 1) block says headless zero_block alone))
+      (subst (λ (w : BlockKind). ReadBy (is_extended_block w) (words line) (rows w) c.command) at_top r.reads) heads_it))
       (λ some.
       let inner : is_head (kind line) || (block_after (kind line) (place + 1) block == 0) ≡ false = ap (λ (t : Bool). t || (block_after (kind line) (place + 1) block == 0)) headless ∙ some in
-      let opens : MarkOpens (marks_in lines) (block_after (kind line) (place + 1) block) r.within = subst (λ (t : Bool). MatchBool t (r.within ≡ kinds.Top) (MarkOpens (marks_in lines) (block_after (kind line) (place + 1) block) r.within)) inner r.stands in
+      let opens : MarkOpens (marks_in lines) (block_after (kind line) (place + 1) block) r.within =
+      subst (λ (t : Bool). MatchBool t (r.within ≡ kinds.Top) (MarkOpens (marks_in lines) (block_after (kind line) (place + 1) block) r.within)) inner r.stands in
       absurd (inner-heads r.within (words line) c.command (λ top. never-top opens.command (sym opens.opens ∙ top)) r.reads heads_it))
       (cases_Bool (block_after (kind line) (place + 1) block == 0)))
       (cases_Bool (is_head (kind line)))
@@ -182,7 +189,8 @@ module _ (lines : List (List ℕ)) (cs : List FileCommand) (c : FileCommand) (ar
       let low : place < length lines = omega arith in
       let block = open_block (take place lines) in
       let line = get_or lines place [] in
-      let seen_mark : slice_get marks place ≡ Some (mark_seen (seen_in (place + 1) line (kind_at lines place) block)) = slice_get-map mark_seen (seen lines) place ∙ ap (option_map mark_seen) (seen-at lines place low) in
+      let seen_mark : slice_get marks place ≡ Some (mark_seen (seen_in (place + 1) line (kind_at lines place) block)) =
+      slice_get-map mark_seen (seen lines) place ∙ ap (option_map mark_seen) (seen-at lines place low) in
       let s = seen_in (place + 1) line (kind_at lines place) block in
       let same : mark_seen s ≡ l.1 = same_Some (mark_seen s) l.1 (sym seen_mark ∙ at) in
       let said : is_inert (kind_at lines place) ≡ false = not-inert (is_inert (kind_at lines place)) (ap (λ (m : Mark). not m.inert) same ∙ says) in
@@ -191,7 +199,8 @@ module _ (lines : List (List ℕ)) (cs : List FileCommand) (c : FileCommand) (ar
       let row : l.0 ≡ place + 1 = omega arith in
       let both : l ≡ (place + 1, mark_seen s) = λ i. (row i, sym same i) in
       let read = subst (λ (x : ℕ × Mark). IsMarkRead marks x c) both r in
-      let alone : is_alone (kind_at lines place) (block_after (kind_at lines place) (place + 1) block) ≡ false = all-get NotAlone (seen lines) place s (stand-all lines are.no_orphan) (seen-at lines place low) in
+      let alone : is_alone (kind_at lines place) (block_after (kind_at lines place) (place + 1) block) ≡ false =
+      all-get NotAlone (seen lines) place s (stand-all lines are.no_orphan) (seen-at lines place low) in
       let own = own-by place line block
       (subst (λ x. is_alone x (block_after x (place + 1) block) ≡ false) k alone)
       (subst (λ x. IsMarkRead marks (place + 1, mark_seen (seen_in (place + 1) line x block)) c) k read)

@@ -43,7 +43,8 @@ any_others : (x p : Part) → is_same p x ≡ false → (ps : List Part) → lis
 any_others x p e [] = refl
 any_others x p e (q ∷ ps) = by (is_same x q) refl (any_others x p e ps)
   where
-    by : (b : Bool) → is_same x q ≡ b → list_any (is_same p) (others x ps) ≡ list_any (is_same p) ps → list_any (is_same p) (cond (not b) (q ∷ others x ps) (others x ps)) ≡ (is_same p q || list_any (is_same p) ps)
+    by : (b : Bool) → is_same x q ≡ b → list_any (is_same p) (others x ps) ≡ list_any (is_same p) ps →
+        list_any (is_same p) (cond (not b) (q ∷ others x ps) (others x ps)) ≡ (is_same p q || list_any (is_same p) ps)
     by false h ih = ap (λ c. is_same p q || c) ih
     by true h ih =
         let lacks : is_same p q ≡ false = ap (is_same p) (sym ((is_same-Decides x q).0 h)) ∙ e in
@@ -80,7 +81,8 @@ kept_lacks : (x p : Part) (ps : List Part) → list_any (is_same p) ps ≡ false
 kept_lacks x p [] e = refl
 kept_lacks x p (q ∷ ps) e = by (is_same x q) (kept_lacks x p ps) (neither (is_same p q) (list_any (is_same p) ps) e)
   where
-    by : (b : Bool) → (list_any (is_same p) ps ≡ false → list_any (is_same p) (others x ps) ≡ false) → (is_same p q ≡ false) × (list_any (is_same p) ps ≡ false) → list_any (is_same p) (cond (not b) (q ∷ others x ps) (others x ps)) ≡ false
+    by : (b : Bool) → (list_any (is_same p) ps ≡ false → list_any (is_same p) (others x ps) ≡ false) →
+        (is_same p q ≡ false) × (list_any (is_same p) ps ≡ false) → list_any (is_same p) (cond (not b) (q ∷ others x ps) (others x ps)) ≡ false
     by true ih h = ih h.1
     by false ih h = ap (λ c. c || list_any (is_same p) (others x ps)) h.0 ∙ ih h.1
 
@@ -146,7 +148,8 @@ module _ (cs : List FileCommand) (c : FileCommand) where
   one_gains (p ∷ ps) f e = by (is_same (part_of c) p) refl (one_gains ps f.1)
     where
       by : (b : Bool) → is_same (part_of c) p ≡ b → (list_any (is_same (part_of c)) ps ≡ true →
-          map (members (cs ++ c ∷ [])) ps ≡ set (map (members cs) ps) (position_or_len (is_same (part_of c)) ps) (get_or (map (members cs) ps) (position_or_len (is_same (part_of c)) ps) [] ++ c ∷ [])) →
+          map (members (cs ++ c ∷ [])) ps ≡ set (map (members cs) ps) (position_or_len (is_same (part_of c)) ps)
+          (get_or (map (members cs) ps) (position_or_len (is_same (part_of c)) ps) [] ++ c ∷ [])) →
           (members (cs ++ c ∷ []) p ∷ map (members (cs ++ c ∷ [])) ps) ≡
           set (members cs p ∷ map (members cs) ps) (cond (not b) (1 + position_or_len (is_same (part_of c)) ps) 0)
           (get_or (members cs p ∷ map (members cs) ps) (cond (not b) (1 + position_or_len (is_same (part_of c)) ps) 0) [] ++ c ∷ [])

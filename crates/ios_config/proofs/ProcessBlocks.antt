@@ -1,5 +1,6 @@
 -- A process that commands set has its block among them.
-use Rattle.std.proofs.Common.{◌≡◌, ◌≢◌, ℕ, suc, ◌+◌, ◌-◌, ◌≤◌, ◌⊎◌, inl, inr, Bool, true, false, cond, List, [], ◌∷◌, length, map, filter, slice_get, refl, sym, ap, subst, ◌∙◌, arith, ⊎_elim, Contains}
+use Rattle.std.proofs.Common.{◌≡◌, ◌≢◌, ℕ, suc, ◌+◌, ◌-◌, ◌≤◌, ◌⊎◌, inl, inr, Bool, true, false, cond}
+use Rattle.std.proofs.Common.{List, [], ◌∷◌, length, map, filter, slice_get, refl, sym, ap, subst, ◌∙◌, arith, ⊎_elim, Contains}
 use Rattle.std.specs.Option.{option_map_or}
 use Rattle.arc_base.proofs.Items.{Contains-cases, Contains-none, Contains-head, Contains-tail, Contains-filter, from_map, from_piece, from_filter}
 use Rattle.ios_words.specs.declared.kinds.BlockKind.{BlockKind}
@@ -39,7 +40,15 @@ pub record IsLastOf (cs : List FileCommand) (last : FileCommand) : Type 0 where
   pub latest : (d : FileCommand) → Contains cs d → d.line ≤ last.line
 
 pub last-of : (n : ℕ) (c : FileCommand) (cs : List FileCommand) → Rising n (c ∷ cs) → (last : FileCommand) × IsLastOf (c ∷ cs) last
-last-of n c [] up = (c, record { among = Contains-head c []; line = refl; latest = λ d there. ⊎_elim (λ here. subst (λ (e : FileCommand). e.line ≤ c.line) here (omega arith)) (λ none. absurd (Contains-none d none)) (Contains-cases c d [] there) })
+last-of n c [] up = (
+  c,
+  record {
+    among = Contains-head c [];
+    line = refl;
+    latest = λ d there. ⊎_elim (λ here. subst (λ (e : FileCommand). e.line ≤ c.line) here (omega arith))
+        (λ none. absurd (Contains-none d none)) (Contains-cases c d [] there);
+  },
+)
 last-of n c (d ∷ cs) up =
     let (last, is) = last-of (c.line + 1) d cs up.1 in
     let step : length (c ∷ d ∷ cs) - 1 ≡ suc (length (d ∷ cs) - 1) = omega arith in (
@@ -97,7 +106,8 @@ process-is (commands.RouterBgp number) h t process there = ⊎_elim
     (Contains-cases _ process [] there)
 process-is _ h t process there = absurd (Contains-none process there)
 
-block-of : (lines : List (List ℕ)) (cs : List FileCommand) (process : ProcessText) (part : Part) (group : List FileCommand) → AreCommandsIn lines cs → members cs part ≡ group → Contains (process_of group) process → HasProcess cs process
+block-of : (lines : List (List ℕ)) (cs : List FileCommand) (process : ProcessText) (part : Part) (group : List FileCommand) → AreCommandsIn lines cs →
+    members cs part ≡ group → Contains (process_of group) process → HasProcess cs process
 block-of lines cs process part [] are is there = absurd (Contains-none process there)
 block-of lines cs process part (h ∷ t) are is there =
     let p = process-is h.command h t process there in

@@ -1,5 +1,6 @@
 -- Lines that are put one after another at the end of a process.
-use Rattle.std.proofs.Common.{◌≡◌, ℕ, zero, suc, ◌+◌, ◌<◌, ◌≤◌, ◌⊎◌, inl, inr, Bool, true, false, List, [], ◌∷◌, ◌++◌, length, map, take, drop, refl, sym, ap, subst, ◌∙◌, arith, ⊎_elim, Contains, append_assoc, append-nil, nat_le}
+use Rattle.std.proofs.Common.{◌≡◌, ℕ, zero, suc, ◌+◌, ◌<◌, ◌≤◌, ◌⊎◌, inl, inr, Bool, true, false, List, [], ◌∷◌}
+use Rattle.std.proofs.Common.{◌++◌, length, map, take, drop, refl, sym, ap, subst, ◌∙◌, arith, ⊎_elim, Contains, append_assoc, append-nil, nat_le}
 use Rattle.std.proofs.lemmas.Bool.{leb-false, cond-true, cond-false}
 use Rattle.std.proofs.lemmas.List.{take-append-drop}
 use Rattle.ios_lines.specs.Changes.{inserted, moved}
@@ -63,7 +64,8 @@ no-list (commands.PrefixLine name number entry) within opens is block = absurd (
 no-list _ within opens is block = refl
 
 -- the process that it is
-one-process : (command : Command) (within : BlockKind) → opened_by command ≡ within → IsProcessKind within → (head : FileCommand) (rest : List FileCommand) → (q : ProcessText) × (process_by command head rest ≡ q ∷ [])
+one-process : (command : Command) (within : BlockKind) → opened_by command ≡ within → IsProcessKind within → (head : FileCommand) (rest : List FileCommand) →
+    (q : ProcessText) × (process_by command head rest ≡ q ∷ [])
 one-process (commands.RouterOspf number) within opens is head rest = (_, refl)
 one-process (commands.RouterBgp number) within opens is head rest = (_, refl)
 one-process (commands.Interface name) within opens is head rest = absurd (not-interface (other-kinds within kinds.Interface is opens))
@@ -92,7 +94,8 @@ alone {X} (x ∷ before) after q p is = absurd (two (ap length is))
     two e = let more = size before in absurd (omega arith)
 
 -- one line more
-module _ (old new : Config) (h : FileCommand) (rest : List FileCommand) (command : Command) (within : BlockKind) (opens : opened_by h.command ≡ within) (is : IsProcessKind within) (p : ProcessText) where
+module _ (old new : Config) (h : FileCommand) (rest : List FileCommand) (command : Command) (within : BlockKind) (opens : opened_by h.command ≡ within) (is : IsProcessKind within)
+    (p : ProcessText) where
   abbrev c : FileCommand
   c = record { line = 0; block = 0; command = command }
 
@@ -106,8 +109,10 @@ module _ (old new : Config) (h : FileCommand) (rest : List FileCommand) (command
       λ l. ap (λ (x : List ProcessText). x ++ (l ++ other.process_after)) none.0 ∙ ap (λ (x : List ProcessText). l ++ x) none.1 ∙ append-nil l in
       record {
         hostname = named;
-        faces = other.new_faces ∙ ap (λ (l : List FaceText). other.faces_before ++ (l ++ other.faces_after)) (no-face h.command within opens is h.line (h ∷ rest ++ c ∷ []) ∙ sym (no-face h.command within opens is h.line (h ∷ rest))) ∙ sym other.old_faces;
-        lists = other.new_lists ∙ ap (λ (l : List ListText). other.lists_before ++ (l ++ other.lists_after)) (no-list h.command within opens is (h ∷ rest ++ c ∷ []) ∙ sym (no-list h.command within opens is (h ∷ rest))) ∙ sym other.old_lists;
+        faces = other.new_faces ∙ ap (λ (l : List FaceText). other.faces_before ++ (l ++ other.faces_after))
+            (no-face h.command within opens is h.line (h ∷ rest ++ c ∷ []) ∙ sym (no-face h.command within opens is h.line (h ∷ rest))) ∙ sym other.old_faces;
+        lists = other.new_lists ∙ ap (λ (l : List ListText). other.lists_before ++ (l ++ other.lists_after))
+            (no-list h.command within opens is (h ∷ rest ++ c ∷ []) ∙ sym (no-list h.command within opens is (h ∷ rest))) ∙ sym other.old_lists;
         process =
             other.new_process ∙ around (process_of (h ∷ rest ++ c ∷ [])) ∙ last-line h rest c ∙ ap (map (process_with c)) there ∙
             ap (map (with_lines (command ∷ []))) (sym there ∙ sym (around (process_of (h ∷ rest))) ∙ sym other.old_process);
@@ -195,7 +200,8 @@ more-longer m more (p ∷ ps) = λ i. one p i ∷ more-longer m more ps i
     one : (p : ProcessText) → with_lines more (with_lines (m ∷ []) p) ≡ with_lines (m ∷ more) p
     one p = λ i. record { kind = p.kind; number = p.number; head = p.head; last = 0; lines = append_assoc p.lines (unnumbered m ∷ []) (map unnumbered more) i }
 
-appended-lines : (lines : List (List ℕ)) (cs : List FileCommand) (head last : FileCommand) (within : BlockKind) (process : ProcessText) (added : List (List ℕ)) (more : List Command) → AreCommandsIn lines cs → HasBlock cs head last within →
+appended-lines : (lines : List (List ℕ)) (cs : List FileCommand) (head last : FileCommand) (within : BlockKind) (process : ProcessText) (added : List (List ℕ)) (more : List Command) →
+    AreCommandsIn lines cs → HasBlock cs head last within →
     IsProcessKind within → (bare_config (config_of cs)).process ≡ process ∷ [] → AreLinesIn within head.line added more → AreAppendedIn lines cs last.line added more
 appended-lines lines cs head last within process [] [] are b is one of = record {
   all = cs;
@@ -221,7 +227,8 @@ appended-lines lines cs head last within process (a ∷ added) (m ∷ more) are 
     let sets : HasOneOther (bare_config (config_of cs)) (bare_config (config_of ds)) (bare head ∷ map bare first.0) ((bare head ∷ map bare first.0) ++ tail) =
     subst (λ (g : List FileCommand). HasOneOther (bare_config (config_of cs)) (bare_config (config_of ds)) g (g ++ tail)) group r.sets in
     let named : (bare_config (config_of ds)).hostname ≡ (bare_config (config_of cs)).hostname =
-    ap (λ (l : List FileCommand). (bare_config (config_of l)).hostname) (split.with_one c) ∙ hostname-stays place split.front c split.back quiet.unnamed ∙ ap (λ (l : List FileCommand). (bare_config (config_of l)).hostname) (sym split.parts) in
+    ap (λ (l : List FileCommand). (bare_config (config_of l)).hostname) (split.with_one c) ∙ hostname-stays place split.front c split.back quiet.unnamed
+    ∙ ap (λ (l : List FileCommand). (bare_config (config_of l)).hostname) (sym split.parts) in
     let longer = one-longer (bare_config (config_of cs)) (bare_config (config_of ds)) (bare head) (map bare first.0) m within b.opens is process sets named one in
     let one_still : (bare_config (config_of ds)).process ≡ with_lines (m ∷ []) process ∷ [] = longer.process ∙ ap (map (with_lines (m ∷ []))) one in
     let deeper = appended-lines (inserted place a lines) ds head c within (with_lines (m ∷ []) process) added more r.stands (next-block lines cs head last within m are b) is one_still of.1 in

@@ -1,5 +1,6 @@
 -- The commands of a text of which one line says another thing.
-use Rattle.std.proofs.Common.{◌≡◌, ◌≢◌, ℕ, zero, suc, ◌+◌, ◌||◌, not, Bool, true, false, List, [], ◌∷◌, ◌++◌, take, drop, filter, slice_get, Some, refl, sym, ap, subst, ◌∙◌, arith, ⊎_elim, Contains, MatchBool, true≢false}
+use Rattle.std.proofs.Common.{◌≡◌, ◌≢◌, ℕ, zero, suc, ◌+◌, ◌||◌, not, Bool, true, false, List, [], ◌∷◌, ◌++◌}
+use Rattle.std.proofs.Common.{take, drop, filter, slice_get, Some, refl, sym, ap, subst, ◌∙◌, arith, ⊎_elim, Contains, MatchBool, true≢false}
 use Rattle.std.proofs.lemmas.Bool.{cond-true, eq-eqb}
 use Rattle.std.proofs.lemmas.List.Elements.{filter-append, Contains-append_left, Contains-append_right, Contains-append_cases}
 use Rattle.std.proofs.lemmas.Option.{none-some, same_Some}
@@ -29,7 +30,8 @@ parted-at [] place item is = absurd (none-some item is)
 parted-at (x ∷ items) zero item is = record { split = ap (λ y. y ∷ items) (same_Some x item is) }
 parted-at (x ∷ items) (suc place) item is = record { split = ap (λ ys. x ∷ ys) (parted-at items place item is).split }
 
-changed-parts : {A : Type 0} → (items : List A) (place : ℕ) (change : A → A) (item : A) → slice_get items place ≡ Some item → changed place change items ≡ take place items ++ change item ∷ drop (suc place) items
+changed-parts : {A : Type 0} → (items : List A) (place : ℕ) (change : A → A) (item : A) → slice_get items place ≡ Some item →
+    changed place change items ≡ take place items ++ change item ∷ drop (suc place) items
 changed-parts [] place change item is = absurd (none-some item is)
 changed-parts (x ∷ items) zero change item is = ap (λ y. change y ∷ items) (same_Some x item is)
 changed-parts (x ∷ items) (suc place) change item is = ap (λ ys. x ∷ ys) (changed-parts items place change item is)
@@ -97,7 +99,8 @@ module _ (old new : List Mark) (place : ℕ) (m : Mark) (ws : List (List ℕ)) (
       (λ early. Contains-append_left (take place numbered) ((1 + place, mark_worded ws m) ∷ drop (suc place) numbered) (number, x) early)
       (λ late. ⊎_elim
       (λ same. absurd (other (sym (ap (λ (p : ℕ × Mark). p.0) same))))
-      (λ later. Contains-append_right (take place numbered) ((1 + place, mark_worded ws m) ∷ drop (suc place) numbered) (number, x) (Contains-tail (1 + place, mark_worded ws m) (number, x) (drop (suc place) numbered) later))
+      (λ later. Contains-append_right (take place numbered) ((1 + place, mark_worded ws m) ∷ drop (suc place) numbered) (number, x)
+      (Contains-tail (1 + place, mark_worded ws m) (number, x) (drop (suc place) numbered) later))
       (Contains-cases (1 + place, m) (number, x) (drop (suc place) numbered) late))
       (Contains-append_cases (take place numbered) ((1 + place, m) ∷ drop (suc place) numbered) (number, x) (subst (λ (ls : List (ℕ × Mark)). Contains ls (number, x)) parts-old has)))
 
@@ -110,7 +113,8 @@ module _ (old new : List Mark) (place : ℕ) (m : Mark) (ws : List (List ℕ)) (
       let one : h.head ≡ m = same_Some h.head m (sym h.at_place ∙ ap (slice_get old) same ∙ there) in
       true≢false (sym h.heads ∙ ap (λ (n : Mark). n.head) one ∙ no_head)
 
-  still-within : (k : ℕ) (x : Mark) → slice_get old k ≡ Some x → (b : Bool) → is_top_mark x ≡ b → (within : BlockKind) → MatchBool b (within ≡ kinds.Top) (MarkOpens old x.block within) → MatchBool b (within ≡ kinds.Top) (MarkOpens new x.block within)
+  still-within : (k : ℕ) (x : Mark) → slice_get old k ≡ Some x → (b : Bool) → is_top_mark x ≡ b → (within : BlockKind) →
+      MatchBool b (within ≡ kinds.Top) (MarkOpens old x.block within) → MatchBool b (within ≡ kinds.Top) (MarkOpens new x.block within)
   still-within k x at true top within stands = stands
   still-within k x at false top within o =
       let some : x.block ≢ 0 = λ none. true≢false (sym (ap (λ b. x.head || b) (eq-eqb x.block 0 none) ∙ or-true x.head) ∙ top) in
@@ -125,7 +129,8 @@ module _ (old new : List Mark) (place : ℕ) (m : Mark) (ws : List (List ℕ)) (
       let (k, at) = numbered-there 1 old l.0 l.1 has in
       record { line = r.line; block = r.block; within = r.within; stands = still-within k l.1 at (is_top_mark l.1) refl r.within r.stands; reads = r.reads }
 
-  pub reads-other : (c : FileCommand) (r : IsMarkRead old (1 + place, m) c) (other : Command) → ReadBy (is_extended_block r.within) ws (rows r.within) other → IsMarkRead new (1 + place, mark_worded ws m) (command_at c.line c.block other)
+  pub reads-other : (c : FileCommand) (r : IsMarkRead old (1 + place, m) c) (other : Command) → ReadBy (is_extended_block r.within) ws (rows r.within) other →
+      IsMarkRead new (1 + place, mark_worded ws m) (command_at c.line c.block other)
   reads-other c r other reads = record { line = r.line; block = r.block; within = r.within; stands = still-within place m there (is_top_mark m) refl r.within r.stands; reads = reads }
 
 pub a-replaced-line : AReplacedLineHasAnotherCommand
@@ -150,10 +155,12 @@ a-replaced-line old new lines more place m ws commands has are =
     let one = first-read Old (1 + place, m) behind back second in
     let whole : numbered ≡ take place numbered ++ (1 + place, m) ∷ drop (suc place) numbered = parts-old marks after place m ws has.rows has.at_place has.no_head blocks in
     let in_front = λ (l : ℕ × Mark) (there : Contains before l).
-    subst (λ (ls : List (ℕ × Mark)). Contains ls l) (sym whole) (Contains-append_left (take place numbered) ((1 + place, m) ∷ drop (suc place) numbered) l (from_filter says (take place numbered) l there).0) in
+    subst (λ (ls : List (ℕ × Mark)). Contains ls l) (sym whole)
+    (Contains-append_left (take place numbered) ((1 + place, m) ∷ drop (suc place) numbered) l (from_filter says (take place numbered) l there).0) in
     let in_back = λ (l : ℕ × Mark) (there : Contains behind l).
     subst (λ (ls : List (ℕ × Mark)). Contains ls l) (sym whole)
-    (Contains-append_right (take place numbered) ((1 + place, m) ∷ drop (suc place) numbered) l (Contains-tail (1 + place, m) l (drop (suc place) numbered) (from_filter says (drop (suc place) numbered) l there).0)) in
+    (Contains-append_right (take place numbered) ((1 + place, m) ∷ drop (suc place) numbered) l
+    (Contains-tail (1 + place, m) l (drop (suc place) numbered) (from_filter says (drop (suc place) numbered) l there).0)) in
     let still = still-reads marks after place m ws has.rows has.at_place has.no_head blocks in
     let line : 1 + place ≡ place + 1 = omega arith in
     record {
@@ -169,6 +176,8 @@ a-replaced-line old new lines more place m ws commands has are =
       other = λ c reads. (commands-of-marks new more (front ++ command_at one.first.line one.first.block c ∷ one.rest)).1
           (subst (λ (ls : List (ℕ × Mark)). AllZip New ls (front ++ command_at one.first.line one.first.block c ∷ one.rest)) (sym rows_new)
           (zip-join New before ((1 + place, mark_worded ws m) ∷ behind) front (command_at one.first.line one.first.block c ∷ one.rest)
-          (zip-in Old New before front (λ l d there r. still l d (in_front l there) r) first)
-          (reads-other marks after place m ws has.rows has.at_place has.no_head blocks one.first one.this c reads, zip-in Old New behind one.rest (λ l d there r. still l d (in_back l there) r) one.others)));
+          (zip-in Old New before front (λ l d there r. still l d (in_front l there) r) first) (
+            reads-other marks after place m ws has.rows has.at_place has.no_head blocks one.first one.this c reads,
+            zip-in Old New behind one.rest (λ l d there r. still l d (in_back l there) r) one.others,
+          )));
     }

@@ -40,10 +40,12 @@ replaced-in lines commands place m line are may at told_it no_head =
     let one = first-read Old (1 + place, m) behind back second in
     let whole : numbered ≡ take place numbered ++ (1 + place, m) ∷ drop (suc place) numbered = parts-old marks after place m ws rows at no_head blocks in
     let in_front = λ (l : ℕ × Mark) (there : Contains before l).
-    subst (λ (ls : List (ℕ × Mark)). Contains ls l) (sym whole) (Contains-append_left (take place numbered) ((1 + place, m) ∷ drop (suc place) numbered) l (from_filter says (take place numbered) l there).0) in
+    subst (λ (ls : List (ℕ × Mark)). Contains ls l) (sym whole)
+    (Contains-append_left (take place numbered) ((1 + place, m) ∷ drop (suc place) numbered) l (from_filter says (take place numbered) l there).0) in
     let in_back = λ (l : ℕ × Mark) (there : Contains behind l).
     subst (λ (ls : List (ℕ × Mark)). Contains ls l) (sym whole)
-    (Contains-append_right (take place numbered) ((1 + place, m) ∷ drop (suc place) numbered) l (Contains-tail (1 + place, m) l (drop (suc place) numbered) (from_filter says (drop (suc place) numbered) l there).0)) in
+    (Contains-append_right (take place numbered) ((1 + place, m) ∷ drop (suc place) numbered) l
+    (Contains-tail (1 + place, m) l (drop (suc place) numbered) (from_filter says (drop (suc place) numbered) l there).0)) in
     let still = still-reads marks after place m ws rows at no_head blocks in
     let number : 1 + place ≡ place + 1 = omega arith in
     record {

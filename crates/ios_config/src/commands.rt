@@ -1,9 +1,9 @@
 //! The commands of a file, line for line.
-ghost use Rattle.std.specs.Prelude.{◌≡◌, IfOk, IfErr};
-ghost use Rattle.ios_lines.specs.Lines.{AreLinesOf};
 ghost use Rattle.ios_config.specs.Commands.{AreCommandsOf, IsFaultOf, opened_by};
 ghost use Rattle.ios_config.specs.Reading.{standing, open_after, refusal, IsReading};
+ghost use Rattle.ios_lines.specs.Lines.{AreLinesOf};
 ghost use Rattle.ios_words.specs.Commands.{HasWordsIn};
+ghost use Rattle.std.specs.Prelude.{◌≡◌, IfOk, IfErr};
 
 use crate::fault::ConfigFault;
 use arc_base::Kind;

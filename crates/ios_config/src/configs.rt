@@ -1,10 +1,10 @@
 //! The settings of a file, or its first refusal.
-ghost use Rattle.std.specs.Prelude.{◌≡◌, IfOk};
-ghost use Rattle.std.specs.List.{flat_map};
-ghost use Rattle.ios_lines.specs.Lines.{AreLinesOf};
 ghost use Rattle.ios_config.specs.Configs.{Configures};
 ghost use Rattle.ios_config.specs.Seen.{group_list};
 ghost use Rattle.ios_config.specs.Texts.{config_of, face_of, list_of, process_of, router_name};
+ghost use Rattle.ios_lines.specs.Lines.{AreLinesOf};
+ghost use Rattle.std.specs.List.{flat_map};
+ghost use Rattle.std.specs.Prelude.{◌≡◌, IfOk};
 
 use crate::commands::{FileCommand, commands};
 use crate::faces::face_of;

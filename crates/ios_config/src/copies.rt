@@ -1,6 +1,6 @@
 //! Copies of commands.
-ghost use Rattle.std.specs.Prelude.{◌≡◌, IfOk};
 ghost use Rattle.ios_config.specs.Texts.{given};
+ghost use Rattle.std.specs.Prelude.{◌≡◌, IfOk};
 
 use crate::commands::FileCommand;
 use crate::settings::Given;

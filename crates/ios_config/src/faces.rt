@@ -1,8 +1,8 @@
 //! The interfaces of a file.
-ghost use Rattle.std.specs.Prelude.{◌≡◌, [], IfOk, OnOk, option_to_list};
 ghost use Rattle.ios_config.specs.Seen.{commands_seen};
 ghost use Rattle.ios_config.specs.Texts.{face_text, face_of};
 ghost use Rattle.ios_config.specs.Updates.{SaysMore};
+ghost use Rattle.std.specs.Prelude.{◌≡◌, [], IfOk, OnOk, option_to_list};
 
 use crate::commands::FileCommand;
 use crate::settings::{FaceText, Given};

@@ -8,18 +8,18 @@ ghost use Rattle.ios_config.specs.Effects.{ALastLineIsTheProcesss, CommandsAreSp
 ghost use Rattle.ios_config.specs.Effects.{PlacesRise, SilentCommandsClashWithNone};
 ghost use Rattle.ios_config.specs.Effects.{StillStandsOnce};
 ghost use Rattle.ios_config.specs.HeadBlocks.{HeadsStandInTheirBlocks};
+ghost use Rattle.ios_config.specs.Inserted.{AClosingLineAddsNone, AHeadAddsItsCommand};
+ghost use Rattle.ios_config.specs.Inserted.{AnInnerLineAddsItsCommand, ASingleLineAddsItsCommand};
+ghost use Rattle.ios_config.specs.Inserted.{CommandsAreOfMarks};
 ghost use Rattle.ios_config.specs.Joined.{ACommandBeginsItsGroup, ACommandJoinsItsGroup};
+ghost use Rattle.ios_config.specs.Laws.{HasNoConfigWhereRefused, HasOneConfig, HasOneRefusal};
 ghost use Rattle.ios_config.specs.LineLists.{AClosingLineIsIn, AHeadIsIn, ALineIsAppendedIn};
 ghost use Rattle.ios_config.specs.LineLists.{ALineIsPutBeforeIn, AnInnerLineIsIn, ASingleLineIsIn};
 ghost use Rattle.ios_config.specs.LineLists.{ASingleLineIsPutBeforeIn, CommandsAreOfLines};
 ghost use Rattle.ios_config.specs.Prepended.{ALineIsPutBefore};
-ghost use Rattle.ios_config.specs.ReplacedIn.{AReplacedLineIsIn};
 ghost use Rattle.ios_config.specs.ProcessLines.{ProcessesHaveBlocks, ProcessLinesAreAppended};
 ghost use Rattle.ios_config.specs.Replaced.{AReplacedLineHasAnotherCommand};
-ghost use Rattle.ios_config.specs.Inserted.{AClosingLineAddsNone, AHeadAddsItsCommand};
-ghost use Rattle.ios_config.specs.Inserted.{AnInnerLineAddsItsCommand, ASingleLineAddsItsCommand};
-ghost use Rattle.ios_config.specs.Inserted.{CommandsAreOfMarks};
-ghost use Rattle.ios_config.specs.Laws.{HasNoConfigWhereRefused, HasOneConfig, HasOneRefusal};
+ghost use Rattle.ios_config.specs.ReplacedIn.{AReplacedLineIsIn};
 
 /// The lines of a text set one thing at most.
 pub fn config_is_unique()

@@ -1,8 +1,8 @@
 //! The lists of a file.
-ghost use Rattle.std.specs.Prelude.{◌≡◌, IfOk, option_to_list};
 ghost use Rattle.ios_config.specs.Seen.{commands_seen};
 ghost use Rattle.ios_config.specs.Texts.{is_entry, is_numbered, is_standard, kind_of_number};
 ghost use Rattle.ios_config.specs.Texts.{entries, list_text, list_of, entry_number};
+ghost use Rattle.std.specs.Prelude.{◌≡◌, IfOk, option_to_list};
 
 use crate::commands::FileCommand;
 use crate::copies::given;

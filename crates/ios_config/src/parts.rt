@@ -1,8 +1,8 @@
 //! The commands of a file by their blocks and lists.
-ghost use Rattle.std.specs.Prelude.{◌≡◌, ◌<◌, [], ◌∷◌, ◌++◌, IfOk, OnOk, length, slice_set};
-ghost use Rattle.std.specs.Prelude.{slice_index_or};
 ghost use Rattle.ios_config.specs.Groups.{part_of, groups};
 ghost use Rattle.ios_config.specs.Seen.{part_seen, group_list};
+ghost use Rattle.std.specs.Prelude.{◌≡◌, ◌<◌, [], ◌∷◌, ◌++◌, IfOk, OnOk, length, slice_set};
+ghost use Rattle.std.specs.Prelude.{slice_index_or};
 
 use crate::commands::FileCommand;
 use arc_base::Memory;

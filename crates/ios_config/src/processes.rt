@@ -1,7 +1,7 @@
 //! The routing processes of a file.
-ghost use Rattle.std.specs.Prelude.{◌≡◌, IfOk, map, option_to_list, ◌∷◌};
 ghost use Rattle.ios_config.specs.Seen.{commands_seen};
-ghost use Rattle.ios_config.specs.Texts.{given, last_line, process_text, process_of};
+ghost use Rattle.ios_config.specs.Texts.{given, last_line, process_of};
+ghost use Rattle.std.specs.Prelude.{◌≡◌, IfOk, map, option_to_list};
 
 use crate::commands::FileCommand;
 use crate::copies::given;

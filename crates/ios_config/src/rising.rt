@@ -1,7 +1,7 @@
 //! The numbers of a list's entries.
-ghost use Rattle.std.specs.Prelude.{◌≡◌};
 ghost use Rattle.ios_config.specs.Least.{FindsLeast, lesser};
 ghost use Rattle.ios_config.specs.Rising.{rises, FallsAt, IsNotRising};
+ghost use Rattle.std.specs.Prelude.{◌≡◌};
 
 use crate::lists::entry_number;
 use crate::settings::{Given, ListText};

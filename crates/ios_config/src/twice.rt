@@ -1,8 +1,8 @@
 //! Blocks and lists that occur twice.
-ghost use Rattle.std.specs.Prelude.{◌≡◌, ◌↔◌, Any, Contains, IfOk, IsTrue, MatchOption, map};
-ghost use Rattle.std.specs.Prelude.{option_map};
 ghost use Rattle.ios_config.specs.Seen.{stand_seen};
 ghost use Rattle.ios_config.specs.Twice.{stand_of, excluded, StandOnce, IsFirstDuplicate};
+ghost use Rattle.std.specs.Prelude.{◌≡◌, ◌↔◌, Any, Contains, IfOk, IsTrue, MatchOption, map};
+ghost use Rattle.std.specs.Prelude.{option_map};
 
 use crate::commands::FileCommand;
 use arc_base::Memory;

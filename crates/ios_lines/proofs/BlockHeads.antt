@@ -22,7 +22,8 @@ get-within [] k low = absurd (omega arith)
 get-within (x ∷ xs) zero low = (x, refl)
 get-within (x ∷ xs) (suc k) low = get-within xs k (omega arith)
 
-head-of : (text : List ℕ) (lines : Lines) (place block : ℕ) → AreLinesOf text lines → place < length lines.rows → IsOpenBlock (kind_at (text_lines text)) (place + 1) block → block ≢ 0 → HasHead (marks_of text lines) block
+head-of : (text : List ℕ) (lines : Lines) (place block : ℕ) → AreLinesOf text lines → place < length lines.rows →
+    IsOpenBlock (kind_at (text_lines text)) (place + 1) block → block ≢ 0 → HasHead (marks_of text lines) block
 head-of text lines place zero are low is some = absurd (some refl)
 head-of text lines place (suc h) are low is some =
     let before : h < place + 1 = is.before in

@@ -1,5 +1,6 @@
 -- Texts of which a line changes.
-use Rattle.std.proofs.Common.{◌≡◌, ◌≢◌, ℕ, zero, suc, ◌+◌, ◌<◌, ◌≤◌, ◌⊎◌, inl, inr, true, false, List, [], ◌∷◌, ◌++◌, map, length, length-take-le, take, drop, slice_get, get_or, Some, None, Option, refl, sym, ap, subst, IsTrue, ◌∙◌, arith, fold}
+use Rattle.std.proofs.Common.{◌≡◌, ◌≢◌, ℕ, zero, suc, ◌+◌, ◌<◌, ◌≤◌, ◌⊎◌, inl, inr, true, false, List, [], ◌∷◌, ◌++◌}
+use Rattle.std.proofs.Common.{map, length, length-take-le, take, drop, slice_get, get_or, Some, None, Option, refl, sym, ap, subst, IsTrue, ◌∙◌, arith, fold}
 use Rattle.std.proofs.lemmas.Simd.{map-map}
 use Rattle.std.proofs.lemmas.Bool.{eq-eqb}
 use Rattle.std.specs.List.{AllByRecursion}
@@ -18,7 +19,8 @@ use Rattle.ios_lines.specs.Kinds.{after_line, closes, is_head, is_inert, kind, k
 use Rattle.ios_lines.specs.Blocks.{IsOrphan}
 use Rattle.ios_lines.specs.Reading.{block_after, is_alone}
 use Rattle.ios_lines.specs.Views.{marks_of, seen_in, seen_from, seen, Mark, mark_seen, open_from, open_block}
-use Rattle.ios_lines.specs.Changes.{MayStandAt, Change, Insert, Write, lines_after, lines_after_all, marks_after, marks_after_all, MayCome, MayAllCome, inserted, changed, seen_moved, mark_moved, seen_written, mark_worded, seen_there}
+use Rattle.ios_lines.specs.Changes.{MayStandAt, Change, Insert, Write, lines_after, lines_after_all, marks_after, marks_after_all}
+use Rattle.ios_lines.specs.Changes.{MayCome, MayAllCome, inserted, changed, seen_moved, mark_moved, seen_written, mark_worded, seen_there}
 use Rattle.ios_lines.specs.ChangeLaws.{InnerLinesMayStand, TopLinesMayStand, SeveralChangesStand, CanBeCut, RowsTellPlaces, IsPlaceOf, AnInsertedLineStands, AReplacedLineStands}
 use Rattle.ios_lines.proofs.ViewRows.{rows-are-seen}
 use Rattle.ios_lines.proofs.Insertions.{seen-inserted, seen-append, length-seen, opens-none}
@@ -31,7 +33,8 @@ map-inserted f zero item items = refl
 map-inserted f (suc place) item [] = refl
 map-inserted f (suc place) item (x ∷ items) = ap (λ xs. f x ∷ xs) (map-inserted f place item items)
 
-pub map-changed : {A B : Type 0} → (f : A → B) (place : ℕ) (one : A → A) (two : B → B) (items : List A) → ((x : A) → f (one x) ≡ two (f x)) → map f (changed place one items) ≡ changed place two (map f items)
+pub map-changed : {A B : Type 0} → (f : A → B) (place : ℕ) (one : A → A) (two : B → B) (items : List A) → ((x : A) → f (one x) ≡ two (f x)) →
+    map f (changed place one items) ≡ changed place two (map f items)
 map-changed f place one two [] same = refl
 map-changed f zero one two (x ∷ items) same = ap (λ y. y ∷ map f items) (same x)
 map-changed f (suc place) one two (x ∷ items) same = ap (λ xs. f x ∷ xs) (map-changed f place one two items same)
@@ -54,7 +57,8 @@ an-inserted-line old new place line may is cut = record {
       ∙ ap (map mark_seen) (seen-inserted (text_lines old) place line may)
       ∙ map-inserted mark_seen place (seen_there (text_lines old) place line) (map (seen_moved place) (seen (text_lines old)))
       ∙ ap (inserted place (mark_seen (seen_there (text_lines old) place line)))
-      (map-map mark_seen (seen_moved place) (seen (text_lines old)) ∙ sym (map-map (mark_moved place) mark_seen (seen (text_lines old))) ∙ ap (map (mark_moved place)) (sym (rows-are-seen old lines are)));
+      (map-map mark_seen (seen_moved place) (seen (text_lines old)) ∙ sym (map-map (mark_moved place) mark_seen (seen (text_lines old)))
+      ∙ ap (map (mark_moved place)) (sym (rows-are-seen old lines are)));
 }
 
 pub a-replaced-line : AReplacedLineStands
@@ -75,13 +79,16 @@ get-seam : {A : Type 0} → (front : List A) (item : A) (back : List A) (place :
 get-seam [] item back place is = ap (slice_get (item ∷ back)) (sym is)
 get-seam (x ∷ front) item back place is = ap (slice_get (x ∷ (front ++ item ∷ back))) (sym is) ∙ get-seam front item back (length front) refl
 
-open-append : (count : ℕ) (banner : Option Delimiter) (block : ℕ) (front back : List (List ℕ)) → open_from count banner block (front ++ back) ≡ open_from (count + length front) (fold after_line banner front) (open_from count banner block front) back
+open-append : (count : ℕ) (banner : Option Delimiter) (block : ℕ) (front back : List (List ℕ)) →
+    open_from count banner block (front ++ back) ≡ open_from (count + length front) (fold after_line banner front) (open_from count banner block front) back
 open-append count banner block [] back = ap (λ n. open_from n banner block back) (omega arith)
 open-append count banner block (line ∷ front) back =
     open-append (count + 1) (after_line banner line) (block_after (kind_within banner line) (count + 1) block) front back
-    ∙ ap (λ n. open_from n (fold after_line (after_line banner line) front) (open_from (count + 1) (after_line banner line) (block_after (kind_within banner line) (count + 1) block) front) back) (omega arith)
+    ∙ ap (λ n. open_from n (fold after_line (after_line banner line) front)
+    (open_from (count + 1) (after_line banner line) (block_after (kind_within banner line) (count + 1) block) front) back) (omega arith)
 
-pub seen-at : (lines : List (List ℕ)) (place : ℕ) → place < length lines → slice_get (seen lines) place ≡ Some (seen_in (place + 1) (get_or lines place []) (kind_at lines place) (open_block (take place lines)))
+pub seen-at : (lines : List (List ℕ)) (place : ℕ) → place < length lines →
+    slice_get (seen lines) place ≡ Some (seen_in (place + 1) (get_or lines place []) (kind_at lines place) (open_block (take place lines)))
 seen-at lines place low =
     let front = take place lines in
     let line = get_or lines place [] in
@@ -156,7 +163,8 @@ place-of lines place stand low says =
     record {
       within = low;
       before = before;
-      after = ap open_banner (take_more lines place [] low) ∙ fold-append after_line None (take place lines) (line ∷ []) ∙ ap (λ b. after_line b line) before ∙ opens-none (kind line) line (subst (λ x. x ≢ Banner) here (no-banner-line k says));
+      after = ap open_banner (take_more lines place [] low) ∙ fold-append after_line None (take place lines) (line ∷ []) ∙ ap (λ b. after_line b line) before
+          ∙ opens-none (kind line) line (subst (λ x. x ≢ Banner) here (no-banner-line k says));
       block = open-after lines place low;
       closing = top-closes k (place + 1) block says stands;
       inner = inner-block k (place + 1) block says;
@@ -198,7 +206,8 @@ banner-change : (change : Change) (lines : List (List ℕ)) → MayCome change l
 banner-change (Insert place line) lines may = banner-inserted lines place line may
 banner-change (Write place line) lines may = banner-replaced lines place line may
 
-marks-all : (changes : List Change) (lines : List (List ℕ)) → MayAllCome changes lines → map mark_seen (seen (lines_after_all changes lines)) ≡ marks_after_all changes lines (map mark_seen (seen lines))
+marks-all : (changes : List Change) (lines : List (List ℕ)) → MayAllCome changes lines →
+    map mark_seen (seen (lines_after_all changes lines)) ≡ marks_after_all changes lines (map mark_seen (seen lines))
 marks-all [] lines may = refl
 marks-all (change ∷ changes) lines may = marks-all changes (lines_after change lines) may.1 ∙ ap (marks_after_all changes (lines_after change lines)) (marks-change change lines may.0)
 
@@ -216,7 +225,8 @@ several-changes old new changes may is cut = record {
       (λ p orphan. orphans-all changes (text_lines old) may (no-orphan-at (text_lines old) cut.no_orphan) p (subst (λ ls. IsOrphan ls p) is orphan))
       (ap open_banner is ∙ banner-all changes (text_lines old) may);
   rows = λ lines more are new_are.
-      rows-are-seen new more new_are ∙ ap (λ ls. map mark_seen (seen ls)) is ∙ marks-all changes (text_lines old) may ∙ ap (marks_after_all changes (text_lines old)) (sym (rows-are-seen old lines are));
+      rows-are-seen new more new_are ∙ ap (λ ls. map mark_seen (seen ls)) is ∙ marks-all changes (text_lines old) may
+      ∙ ap (marks_after_all changes (text_lines old)) (sym (rows-are-seen old lines are));
 }
 
 other-kinds : (line : List ℕ) (k other : Kind) → kind line ≡ k → (k ≡ other → ⊥) → kind line ≢ other
@@ -231,7 +241,8 @@ inner-may lines place line within outside some is = record {
   inner = λ e. some;
 }
 
-top-may-kind : (lines : List (List ℕ)) (place : ℕ) (line : List ℕ) (k : Kind) → place ≤ length lines → open_banner (take place lines) ≡ None → (place < length lines → IsTrue (closes (kind_at lines place))) → kind line ≡ k → (k ≡ Banner → ⊥) → (k ≡ Inner → ⊥) → MayStandAt lines place line
+top-may-kind : (lines : List (List ℕ)) (place : ℕ) (line : List ℕ) (k : Kind) → place ≤ length lines → open_banner (take place lines) ≡ None →
+    (place < length lines → IsTrue (closes (kind_at lines place))) → kind line ≡ k → (k ≡ Banner → ⊥) → (k ≡ Inner → ⊥) → MayStandAt lines place line
 top-may-kind lines place line k within outside closing is no_banner no_inner = record {
   within = within;
   outside = outside;

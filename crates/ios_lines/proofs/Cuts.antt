@@ -1,5 +1,6 @@
 -- The rows so far, and what stands at the end of a text.
-use Rattle.std.proofs.Common.{◌≡◌, ℕ, zero, suc, ◌+◌, ◌-◌, ◌<◌, ◌≤◌, ◌⊎◌, inl, inr, List, [], ◌∷◌, ◌++◌, map, length, length-drop, take, drop, slice_get, refl, sym, ap, subst, ◌∙◌, arith, ⊎_elim, append-nil, append_assoc, Some, None, IsSome, is_some, true, false, All}
+use Rattle.std.proofs.Common.{◌≡◌, ℕ, zero, suc, ◌+◌, ◌-◌, ◌<◌, ◌≤◌, ◌⊎◌, inl, inr, List, [], ◌∷◌, ◌++◌, map, length, length-drop}
+use Rattle.std.proofs.Common.{take, drop, slice_get, refl, sym, ap, subst, ◌∙◌, arith, ⊎_elim, append-nil, append_assoc, Some, None, IsSome, is_some, true, false, All}
 use Rattle.std.proofs.lemmas.List.{map-append, drop_all, take_all}
 use Rattle.std.proofs.lemmas.List.Elements.{All-nil, All-cons, All-append}
 use Rattle.std.proofs.lemmas.Option.{none-some, same_Some}
@@ -34,7 +35,8 @@ module _ (text : List ℕ) (at : ℕ) (state after : Open) (line : Line) (rows :
   pub inside-more : All (HasWordsIn text) rows → All (HasWordsIn text) (rows ++ line ∷ [])
   inside-more all = All-append (HasWordsIn text) rows (line ∷ []) all (All-cons (HasWordsIn text) line [] next.inside (All-nil (HasWordsIn text)))
 
-  pub rows-more : length rows ≡ state.count → ((place : ℕ) (l : Line) → slice_get rows place ≡ Some l → IsRow text place l) → (place : ℕ) (l : Line) → slice_get (rows ++ line ∷ []) place ≡ Some l → IsRow text place l
+  pub rows-more : length rows ≡ state.count → ((place : ℕ) (l : Line) → slice_get rows place ≡ Some l → IsRow text place l) → (place : ℕ) (l : Line) →
+      slice_get (rows ++ line ∷ []) place ≡ Some l → IsRow text place l
   rows-more count all place l is = ⊎_elim
       (λ before. all place l before)
       (λ last. subst (λ n. IsRow text n l) (sym (last.0 ∙ count)) (subst (IsRow text state.count) last.1 next.row))
@@ -60,7 +62,8 @@ module _ (text : List ℕ) (at : ℕ) (state : Open) (stands : Stands text at st
   no-banner closed zero is = is
   no-banner closed (suc place) is =
       let within : place < length (text_lines text) = is.within in
-      let some : IsSome (open_banner (take state.count (text_lines text))) = subst (λ n. IsSome (open_banner (take n (text_lines text)))) (sym all-lines) (is.stays (length (text_lines text)) within (omega arith)) in
+      let some : IsSome (open_banner (take state.count (text_lines text))) =
+      subst (λ n. IsSome (open_banner (take n (text_lines text)))) (sym all-lines) (is.stays (length (text_lines text)) within (omega arith)) in
       let none : open_banner (take state.count (text_lines text)) ≡ None = sym stands.banner ∙ closed in
       let yes : is_some (open_banner (take state.count (text_lines text))) ≡ true = some in
       let no : is_some (open_banner (take state.count (text_lines text))) ≡ false = ap is_some none in
@@ -69,7 +72,9 @@ module _ (text : List ℕ) (at : ℕ) (state : Open) (stands : Stands text at st
   pub open-banner : IsSome state.banner → HasOpenBannerAt text state.first
   open-banner still = subst (λ n. IsUnclosed (text_lines text) n state.first) all-lines (stands.first still)
 
-  pub are-lines : (rows : List Line) → ((rest : List Line) → Join text at rest → Join text 0 (rows ++ rest)) → bytes_of text rows ≡ take state.count (text_lines text) → All (HasWordsIn text) rows → ((place : ℕ) (l : Line) → slice_get rows place ≡ Some l → IsRow text place l) → AreLinesOf text (record { rows = rows })
+  pub are-lines : (rows : List Line) → ((rest : List Line) → Join text at rest → Join text 0 (rows ++ rest)) →
+      bytes_of text rows ≡ take state.count (text_lines text) → All (HasWordsIn text) rows →
+      ((place : ℕ) (l : Line) → slice_get rows place ≡ Some l → IsRow text place l) → AreLinesOf text (record { rows = rows })
   are-lines rows join texts inside all =
       let within : at ≤ length text = stands.within in
       let whole : take state.count (text_lines text) ≡ text_lines text = let count = all-lines in take_all state.count (text_lines text) (omega arith) in

@@ -1,5 +1,6 @@
 -- A text that is made of ended lines has these lines, and each text is made so.
-use Rattle.std.proofs.Common.{◌≡◌, ◌≢◌, ℕ, zero, suc, ◌+◌, ◌-◌, ◌<◌, ◌≤◌, ◌⊎◌, inl, inr, List, [], ◌∷◌, ◌++◌, map, flat_map, length, length-append, take, drop, refl, sym, ap, subst, ◌∙◌, arith, ⊎_elim, append_assoc, append-nil, slice_index, slice_range}
+use Rattle.std.proofs.Common.{◌≡◌, ◌≢◌, ℕ, zero, suc, ◌+◌, ◌-◌, ◌<◌, ◌≤◌, ◌⊎◌, inl, inr, List, [], ◌∷◌, ◌++◌}
+use Rattle.std.proofs.Common.{map, flat_map, length, length-append, take, drop, refl, sym, ap, subst, ◌∙◌, arith, ⊎_elim, append_assoc, append-nil, slice_index, slice_range}
 use Rattle.std.proofs.lemmas.List.{drop_more, get_or-append-add}
 use Rattle.std.proofs.lemmas.Simd.{map-map}
 use Rattle.std.proofs.Math.ListN.{get_or-append}
@@ -50,7 +51,9 @@ return-front : (line rest : List ℕ) → IsFree line → text_lines (line ++ ((
 return-front line rest free =
     let text = line ++ ((13 ∷ 10 ∷ []) ++ rest) in
     let long : length text ≡ length line + (2 + length rest) = length-append line ((13 ∷ 10 ∷ []) ++ rest) ∙ omega arith in
-    step-front line (13 ∷ 10 ∷ []) rest (omega arith) (line-front line (13 ∷ 10 ∷ []) rest free (omega arith, after-at line ((13 ∷ 10 ∷ []) ++ rest) 0 (length line) (omega arith), after-at line ((13 ∷ 10 ∷ []) ++ rest) 1 (length line + 1) (omega arith)))
+    step-front line (13 ∷ 10 ∷ []) rest (omega arith)
+    (line-front line (13 ∷ 10 ∷ []) rest free
+    (omega arith, after-at line ((13 ∷ 10 ∷ []) ++ rest) 0 (length line) (omega arith), after-at line ((13 ∷ 10 ∷ []) ++ rest) 1 (length line + 1) (omega arith)))
 
 ended-front : (l : Ended) (rest : List ℕ) → IsEnded l → text_lines ((l.line ++ l.end) ++ rest) ≡ l.line ∷ text_lines rest
 ended-front l rest is = ap text_lines (append_assoc l.line l.end rest) ∙ ⊎_elim
@@ -108,7 +111,9 @@ free-part text from to within free place low feed =
     free (from + place) (omega arith) (omega (arith, long, low)) (sym (slice-at text from to place (omega (arith, long, low))) ∙ feed)
 
 -- a line of a text with its end is an ended one, or the last
-row-ended : (text : List ℕ) (at to end : ℕ) → IsLine text at to end → (IsEnded (record { line = slice_range text at to; end = slice_range text to (to + end) })) ⊎ (IsUnended (record { line = slice_range text at to; end = slice_range text to (to + end) }) × (to + end ≡ length text))
+row-ended : (text : List ℕ) (at to end : ℕ) → IsLine text at to end →
+    (IsEnded (record { line = slice_range text at to; end = slice_range text to (to + end) })) ⊎ (IsUnended
+    (record { line = slice_range text at to; end = slice_range text to (to + end) }) × (to + end ≡ length text))
 row-ended text at to zero line =
     let bounds = line-bounds text at to 0 line in
     let stop : to ≡ length text = line.ending.0 in
@@ -148,7 +153,8 @@ rows-ended text at (row ∷ next ∷ rows) join =
     )
 
 -- a part of a text in two
-rows-text : (text : List ℕ) (rows : List Line) (at : ℕ) → Join text at rows → text_of (map (ended_row text) rows) ≡ flat_map (λ (line : Line). slice_range text line.span.from (line.span.to + line.end)) rows
+rows-text : (text : List ℕ) (rows : List Line) (at : ℕ) → Join text at rows →
+    text_of (map (ended_row text) rows) ≡ flat_map (λ (line : Line). slice_range text line.span.from (line.span.to + line.end)) rows
 rows-text text [] at join = refl
 rows-text text (row ∷ rows) at join =
     let order : at ≤ row.span.to = join.1.ordered in

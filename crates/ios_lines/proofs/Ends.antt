@@ -5,7 +5,8 @@ use Rattle.std.proofs.lemmas.List.{take_rest}
 use Rattle.ios_lines.specs.Texts.{HasNoFeed, IsLine}
 
 -- no line feed stands in the first so many bytes of what is left
-pub no_feed_from : (bytes rest : List ℕ) (from len : ℕ) → rest ≡ take (length bytes - from) (drop from bytes) → ((k : ℕ) → 0 ≤ k → k < len → ¬ ((slice_index rest k == 10) ≡ true)) → HasNoFeed bytes from (from + len)
+pub no_feed_from : (bytes rest : List ℕ) (from len : ℕ) → rest ≡ take (length bytes - from) (drop from bytes) →
+    ((k : ℕ) → 0 ≤ k → k < len → ¬ ((slice_index rest k == 10) ≡ true)) → HasNoFeed bytes from (from + len)
 no_feed_from bytes rest from len is nowhere = λ place low high feed.
     let there : place ≡ from + (place - from) = omega arith in
     let whole : rest ≡ drop from bytes = is ∙ take_rest bytes from in
@@ -13,7 +14,8 @@ no_feed_from bytes rest from len is nowhere = λ place low high feed.
     nowhere (place - from) (omega arith) (omega arith) (eq-eqb _ _ here)
 
 -- where no line feed stands in what is left, it is one line without an end
-pub whole_line : (bytes rest : List ℕ) (from : ℕ) → from < length bytes → rest ≡ take (length bytes - from) (drop from bytes) → ((k : ℕ) → 0 ≤ k → k < length rest → ¬ ((slice_index rest k == 10) ≡ true)) → IsLine bytes from (length bytes) 0
+pub whole_line : (bytes rest : List ℕ) (from : ℕ) → from < length bytes → rest ≡ take (length bytes - from) (drop from bytes) →
+    ((k : ℕ) → 0 ≤ k → k < length rest → ¬ ((slice_index rest k == 10) ≡ true)) → IsLine bytes from (length bytes) 0
 whole_line bytes rest from some is nowhere =
     let count : length rest ≡ length bytes - from = ap length (is ∙ take_rest bytes from) ∙ omega (arith, length-drop from bytes) in
     let free = no_feed_from bytes rest from (length rest) is nowhere in

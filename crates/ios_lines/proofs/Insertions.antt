@@ -1,5 +1,6 @@
 -- A line that is inserted leaves the others as they are, but for the numbers of their blocks.
-use Rattle.std.proofs.Common.{◌≡◌, ◌≢◌, ℕ, suc, ◌+◌, ◌<◌, ◌≤◌, true, false, List, [], ◌∷◌, ◌++◌, map, length, length-drop, length-take-le, take, drop, None, Option, refl, sym, ap, subst, ◌∙◌, arith, ⊎_elim, nat_le, IsTrue, fold}
+use Rattle.std.proofs.Common.{◌≡◌, ◌≢◌, ℕ, suc, ◌+◌, ◌<◌, ◌≤◌, true, false, List, [], ◌∷◌, ◌++◌, map, length}
+use Rattle.std.proofs.Common.{length-drop, length-take-le, take, drop, None, Option, refl, sym, ap, subst, ◌∙◌, arith, ⊎_elim, nat_le, IsTrue, fold}
 use Rattle.std.proofs.lemmas.Bool.{cases_Bool, leb-true, le-leb, cond-true, cond-false}
 use Rattle.std.proofs.lemmas.List.{map-append, take-append-drop}
 use Rattle.std.proofs.Math.Seq.{take-append_seam, drop-append_seam}
@@ -30,7 +31,8 @@ moved-after place count block Head high = sym (moved-high place (count + 1) (ome
 moved-after place count block Banner high = sym (moved-low place 0 (omega arith))
 
 -- lines after the inserted one
-seen-shift : (place count : ℕ) (banner : Option Delimiter) (block : ℕ) (lines : List (List ℕ)) → place ≤ count → seen_from (count + 1) banner (moved place block) lines ≡ map (seen_moved place) (seen_from count banner block lines)
+seen-shift : (place count : ℕ) (banner : Option Delimiter) (block : ℕ) (lines : List (List ℕ)) → place ≤ count →
+    seen_from (count + 1) banner (moved place block) lines ≡ map (seen_moved place) (seen_from count banner block lines)
 seen-shift place count banner block [] high = refl
 seen-shift place count banner block (line ∷ lines) high =
     let k = kind_within banner line in
@@ -56,7 +58,8 @@ open-low count banner block (line ∷ lines) low =
     omega arith
 
 -- lines before the inserted one
-seen-stays : (place count : ℕ) (banner : Option Delimiter) (block : ℕ) (lines : List (List ℕ)) → block ≤ count → count + length lines ≤ place → map (seen_moved place) (seen_from count banner block lines) ≡ seen_from count banner block lines
+seen-stays : (place count : ℕ) (banner : Option Delimiter) (block : ℕ) (lines : List (List ℕ)) → block ≤ count → count + length lines ≤ place →
+    map (seen_moved place) (seen_from count banner block lines) ≡ seen_from count banner block lines
 seen-stays place count banner block [] low few = refl
 seen-stays place count banner block (line ∷ lines) low few =
     let k = kind_within banner line in
@@ -73,7 +76,8 @@ seen-append count banner block (line ∷ front) back =
     let k = kind_within banner line in
     ap (λ rest. seen_in (count + 1) line k block ∷ rest)
     (seen-append (count + 1) (after_line banner line) (block_after k (count + 1) block) front back
-    ∙ ap (λ n. seen_from (count + 1) (after_line banner line) (block_after k (count + 1) block) front ++ seen_from n (fold after_line (after_line banner line) front) (open_from (count + 1) (after_line banner line) (block_after k (count + 1) block) front) back) (omega arith))
+    ∙ ap (λ n. seen_from (count + 1) (after_line banner line) (block_after k (count + 1) block) front ++ seen_from n (fold after_line (after_line banner line) front)
+    (open_from (count + 1) (after_line banner line) (block_after k (count + 1) block) front) back) (omega arith))
 
 pub length-seen : (count : ℕ) (banner : Option Delimiter) (block : ℕ) (lines : List (List ℕ)) → length (seen_from count banner block lines) ≡ length lines
 length-seen count banner block [] = refl
@@ -166,18 +170,22 @@ module _ (front back : List (List ℕ)) (line : List ℕ) (outside : open_banner
       ∙ inserted-at (length front) _ (seen_from 0 None 0 front) (map (seen_moved (length front)) (seen_from (length front) None (open_block front) back)) (length-seen 0 None 0 front))
 
 -- the lines with one inserted, as they are seen
-close-first : (lines : List (List ℕ)) (place : ℕ) (back : List (List ℕ)) → drop place lines ≡ back → place ≤ length lines → open_banner (take place lines) ≡ None → (place < length lines → IsTrue (closes (kind_at lines place))) → CloseFirst back
+close-first : (lines : List (List ℕ)) (place : ℕ) (back : List (List ℕ)) → drop place lines ≡ back → place ≤ length lines →
+    open_banner (take place lines) ≡ None → (place < length lines → IsTrue (closes (kind_at lines place))) → CloseFirst back
 close-first lines place [] is within outside closing = tt
 close-first lines place (line ∷ back) is within outside closing =
     let there : place < length lines = let long = ap length is in omega (arith, long, length-drop place lines) in
     let here : kind_at lines place ≡ kind line = kind-next lines place line back None is (sym outside) in
     subst (λ k. IsTrue (closes k)) here (closing there)
 
-pub seen-inserted : (lines : List (List ℕ)) (place : ℕ) (line : List ℕ) → MayStandAt lines place line → seen (inserted place line lines) ≡ inserted place (seen_there lines place line) (map (seen_moved place) (seen lines))
+pub seen-inserted : (lines : List (List ℕ)) (place : ℕ) (line : List ℕ) → MayStandAt lines place line →
+    seen (inserted place line lines) ≡ inserted place (seen_there lines place line) (map (seen_moved place) (seen lines))
 seen-inserted lines place line may =
     let long : length (take place lines) ≡ place = length-take-le place lines may.within in
     let whole : take place lines ++ drop place lines ≡ lines = take-append-drop place lines in
-    let new = seen-new (take place lines) (drop place lines) line may.outside may.no_banner (λ closes_it. close-first lines place (drop place lines) refl may.within may.outside (may.closing closes_it)) in
+    let new = seen-new (take place lines) (drop place lines) line may.outside may.no_banner
+    (λ closes_it. close-first lines place (drop place lines) refl may.within may.outside (may.closing closes_it)) in
     new
-    ∙ ap (λ ls. inserted (length (take place lines)) (seen_in (length (take place lines) + 1) line (kind line) (open_block (take place lines))) (map (seen_moved (length (take place lines))) (seen ls))) whole
+    ∙ ap (λ ls. inserted (length (take place lines)) (seen_in (length (take place lines) + 1) line (kind line) (open_block (take place lines)))
+    (map (seen_moved (length (take place lines))) (seen ls))) whole
     ∙ ap (λ n. inserted n (seen_in (n + 1) line (kind line) (open_block (take place lines))) (map (seen_moved n) (seen lines))) long

@@ -1,5 +1,6 @@
 -- The first line of what is left of a text, and the lines after it.
-use Rattle.std.proofs.Common.{◌≡◌, ◌≢◌, ℕ, zero, suc, ◌+◌, ◌-◌, ◌<◌, ◌≤◌, true, ◌&&◌, nat_lt, ◌==◌, List, [], ◌∷◌, map, length, length-drop, length-take-le, take, drop, get_or-take, get_or-drop, refl, sym, ap, ◌∙◌, arith, ⊎_elim, slice_index, slice_range}
+use Rattle.std.proofs.Common.{◌≡◌, ◌≢◌, ℕ, zero, suc, ◌+◌, ◌-◌, ◌<◌, ◌≤◌, true, ◌&&◌, nat_lt, ◌==◌, List, [], ◌∷◌}
+use Rattle.std.proofs.Common.{map, length, length-drop, length-take-le, take, drop, get_or-take, get_or-drop, refl, sym, ap, ◌∙◌, arith, ⊎_elim, slice_index, slice_range}
 use Rattle.std.proofs.lemmas.Bool.{cases_eq, eq-eqb, ne_eqb, lt-ltb, cond-true, cond-false}
 use Rattle.std.proofs.lemmas.List.{drop_all, drop-drop, take_rest, take-take}
 use Rattle.bstr.specs.Text.{lines_of, no_cr, without_terminator}
@@ -104,7 +105,8 @@ line-step text from to (suc (suc (suc more))) some line = absurd line.ending
 
 -- a line takes some bytes, and ends within the text
 pub line-bounds : (text : List ℕ) (from to end : ℕ) → IsLine text from to end → (from < to + end) × (to + end ≤ length text) × (to ≤ length text)
-line-bounds text from to zero line = let order : from ≤ to = line.ordered in let stop : to ≡ length text = line.ending.0 in let some : from < to = line.ending.1 in (omega arith, omega arith, omega arith)
+line-bounds text from to zero line = let order : from ≤ to = line.ordered in let stop : to ≡ length text = line.ending.0 in let some : from < to =
+    line.ending.1 in (omega arith, omega arith, omega arith)
 line-bounds text from to (suc zero) line = let order : from ≤ to = line.ordered in let within : to < length text = line.ending.0 in (omega arith, omega arith, omega arith)
 line-bounds text from to (suc (suc zero)) line = let order : from ≤ to = line.ordered in let within : to + 1 < length text = line.ending.0 in (omega arith, omega arith, omega arith)
 line-bounds text from to (suc (suc (suc more))) line = absurd line.ending

@@ -1,5 +1,6 @@
 -- A text has one list of lines.
-use Rattle.std.proofs.Common.{◌≡◌, ℕ, zero, suc, ◌+◌, ◌<◌, ◌≤◌, ◌⊎◌, inl, inr, true, false, Bool, List, [], ◌∷◌, ◌++◌, length, drop, flat_map, slice_get, slice_index, slice_range, Some, refl, sym, ap, subst, ◌∙◌, arith, ⊎_elim}
+use Rattle.std.proofs.Common.{◌≡◌, ℕ, zero, suc, ◌+◌, ◌<◌, ◌≤◌, ◌⊎◌, inl, inr, true, false, Bool, List, []}
+use Rattle.std.proofs.Common.{◌∷◌, ◌++◌, length, drop, flat_map, slice_get, slice_index, slice_range, Some, refl, sym, ap, subst, ◌∙◌, arith, ⊎_elim}
 use Rattle.std.proofs.lemmas.Bool.{cases_eq}
 use Rattle.std.proofs.lemmas.List.{drop_all}
 use Rattle.std.proofs.lemmas.List.Folds.{drop_split}
@@ -78,7 +79,8 @@ same-open kinds count (suc v) (suc w) one two = ⊎_elim (λ same. ap suc same) 
 -- a line ends at one place
 same-stop : (text : List ℕ) (at v w d e : ℕ) → at < length text → IsLine text at v d → IsLine text at w e → v ≡ w
 same-stop text at v w d e some one two =
-    let lines : slice_range text at v ∷ text_lines (drop (v + d) text) ≡ slice_range text at w ∷ text_lines (drop (w + e) text) = sym (line-step text at v d some one) ∙ line-step text at w e some two in
+    let lines : slice_range text at v ∷ text_lines (drop (v + d) text) ≡ slice_range text at w ∷ text_lines (drop (w + e) text) =
+    sym (line-step text at v d some one) ∙ line-step text at w e some two in
     let bytes : slice_range text at v ≡ slice_range text at w = cc in
     let long = ap length bytes in
     let first = length-slice_range text at v (line-bounds text at v d one).2 in
@@ -118,13 +120,15 @@ same-parts a b from to end block head inert words =
     ∙ ap (of_parts b.span b.end b.block b.head b.inert) words
 
 -- a line's bytes and its place give all of it
-same-row : (text : List ℕ) (at place : ℕ) (a b : Line) → at < length text → a.span.from ≡ at → IsLine text at a.span.to a.end → b.span.from ≡ at → IsLine text at b.span.to b.end → IsRow text place a → IsRow text place b → a ≡ b
+same-row : (text : List ℕ) (at place : ℕ) (a b : Line) → at < length text → a.span.from ≡ at → IsLine text at a.span.to a.end → b.span.from ≡ at →
+    IsLine text at b.span.to b.end → IsRow text place a → IsRow text place b → a ≡ b
 same-row text at place a b some a-from a-line b-from b-line one two =
     let from : a.span.from ≡ b.span.from = a-from ∙ sym b-from in
     let to : a.span.to ≡ b.span.to = same-stop text at a.span.to b.span.to a.end b.end some a-line b-line in
     let end : a.end ≡ b.end = same-end text at b.span.to a.end b.end (subst (λ t. IsLine text at t a.end) to a-line) b-line in
     let spans : AreWords text b.span.from b.span.to a.words = subst (λ t. AreWords text b.span.from t a.words) to (subst (λ f. AreWords text f a.span.to a.words) from one.spans) in
-    same-parts a b from to end (same-open (kind_at (text_lines text)) (place + 1) a.block b.block one.block two.block) (one.head ∙ sym two.head) (one.inert ∙ sym two.inert) (same-words text b.span.from b.span.to a.words b.words spans two.spans)
+    same-parts a b from to end (same-open (kind_at (text_lines text)) (place + 1) a.block b.block one.block two.block) (one.head ∙ sym two.head) (one.inert ∙ sym two.inert)
+    (same-words text b.span.from b.span.to a.words b.words spans two.spans)
 
 -- the rows at and after a place
 abbrev AreRows : List ℕ → ℕ → List Line → Type 0
@@ -144,12 +148,15 @@ same-rows text at first (a ∷ xs) (b ∷ ys) one two all every =
     let bounds = line-bounds text at a.span.to a.end one.1 in
     let same : a ≡ b = same-row text at first a b (omega arith) one.0 one.1 two.0 two.1 (row-first text first a xs all) (row-first text first b ys every) in
     ap (λ row. row ∷ xs) same ∙ ap (λ rows. b ∷ rows)
-    (same-rows text (b.span.to + b.end) (first + 1) xs ys (subst (λ (row : Line). Join text (row.span.to + row.end) xs) same one.2) two.2 (rows-after text first a xs all) (rows-after text first b ys every))
+    (same-rows text (b.span.to + b.end) (first + 1) xs ys (subst (λ (row : Line). Join text (row.span.to + row.end) xs) same one.2) two.2 (rows-after text first a xs all)
+    (rows-after text first b ys every))
 
 -- a text has at most one list of lines
 pub one-list : LinesAreOneList
 one-list text one two is are =
-    ap (λ (rows : List Line). record { rows = rows }) (same-rows text 0 0 one.rows two.rows is.join are.join (λ place line h. subst (λ n. IsRow text n line) (omega arith) (is.rows place line h)) (λ place line h. subst (λ n. IsRow text n line) (omega arith) (are.rows place line h)))
+    ap (λ (rows : List Line). record { rows = rows })
+    (same-rows text 0 0 one.rows two.rows is.join are.join (λ place line h. subst (λ n. IsRow text n line) (omega arith) (is.rows place line h))
+    (λ place line h. subst (λ n. IsRow text n line) (omega arith) (are.rows place line h)))
 
 -- the lines from a place on, joined, are what is left
 joined : (text : List ℕ) (at : ℕ) (lines : List Line) → Join text at lines → flat_map (λ (line : Line). slice_range text line.span.from (line.span.to + line.end)) lines ≡ drop at text

@@ -52,7 +52,8 @@ stays-open lines (suc place) d first within begun =
     let none : open_banner (take place lines) ≡ None = ap (λ p. open_banner (take p lines)) (sym here) ∙ begun.alone in
     step ∙ ap (λ o. after_line o (get_or lines place [])) none ∙ ap (λ p. opened (kind (get_or lines p [])) (get_or lines p [])) (sym here) ∙ begun.begins)
     (λ earlier.
-    let deeper = stays-open lines place d first (omega arith) (record { before = omega arith; alone = begun.alone; begins = begun.begins; apart = λ between more high. begun.apart between more (omega arith) }) in
+    let deeper = stays-open lines place d first (omega arith)
+    (record { before = omega arith; alone = begun.alone; begins = begun.begins; apart = λ between more high. begun.apart between more (omega arith) }) in
     step ∙ ap (λ o. after_line o (get_or lines place [])) deeper ∙ cond-false _ _ _ (begun.apart place (omega arith) (omega arith)))
     (cases_eq first place)
 

@@ -83,7 +83,8 @@ alone Head block test = absurd cc
 alone Banner block test = absurd cc
 
 -- the line that began the open banner, after one more line
-pub unclosed-step : (lines : List (List ℕ)) (count first : ℕ) (banner : Option Delimiter) → banner ≡ open_banner (take count lines) → (IsSome banner → IsUnclosed lines count first) → IsSome (open_banner (take (count + 1) lines)) →
+pub unclosed-step : (lines : List (List ℕ)) (count first : ℕ) (banner : Option Delimiter) → banner ≡ open_banner (take count lines) →
+    (IsSome banner → IsUnclosed lines count first) → IsSome (open_banner (take (count + 1) lines)) →
     IsUnclosed lines (count + 1) (first_after banner (count + 1) first)
 unclosed-step lines count first None is before after =
     subst (IsUnclosed lines (count + 1)) (sym (add-one count)) (record {

@@ -1,5 +1,6 @@
 -- No line is an orphan, and no banner is open at the end, where a line is inserted that may stand at its place.
-use Rattle.std.proofs.Common.{◌≡◌, ℕ, zero, suc, ◌+◌, ◌<◌, ◌≤◌, true, false, List, [], ◌∷◌, map, length, length-drop, take, drop, is_some, Some, None, Option, refl, sym, ap, subst, ◌∙◌, arith, ⊎_elim, fold}
+use Rattle.std.proofs.Common.{◌≡◌, ℕ, zero, suc, ◌+◌, ◌<◌, ◌≤◌, true, false, List, [], ◌∷◌, map, length}
+use Rattle.std.proofs.Common.{length-drop, take, drop, is_some, Some, None, Option, refl, sym, ap, subst, ◌∙◌, arith, ⊎_elim, fold}
 use Rattle.std.proofs.lemmas.Bool.{cases_Bool, cases_eq, cases_lt, eqb-true, eq-eqb}
 use Rattle.std.proofs.lemmas.List.{take-append-drop, take_all}
 use Rattle.std.proofs.lemmas.List.Sums.{fold-append}
@@ -44,7 +45,8 @@ alone-inner Head block test = absurd cc
 alone-inner Banner block test = absurd cc
 
 -- a line that is no orphan
-not-alone : (lines : List (List ℕ)) (count : ℕ) (line : List ℕ) (rest : List (List ℕ)) (k : Kind) (block : ℕ) → drop count lines ≡ line ∷ rest → kind_at lines count ≡ k → IsOpenBlock (kind_at lines) count block → (IsOrphan lines count → ⊥) → is_alone k block ≡ false
+not-alone : (lines : List (List ℕ)) (count : ℕ) (line : List ℕ) (rest : List (List ℕ)) (k : Kind) (block : ℕ) → drop count lines ≡ line ∷ rest →
+    kind_at lines count ≡ k → IsOpenBlock (kind_at lines) count block → (IsOrphan lines count → ⊥) → is_alone k block ≡ false
 not-alone lines count line rest k block there kind open_block none = ⊎_elim
     (λ alone.
     let both = alone-inner k block alone in
@@ -53,7 +55,8 @@ not-alone lines count line rest k block there kind open_block none = ⊎_elim
     (λ other. other)
     (cases_Bool (is_alone k block))
 
-all-stand : (lines : List (List ℕ)) (count : ℕ) (banner : Option Delimiter) (block : ℕ) (rest : List (List ℕ)) → drop count lines ≡ rest → banner ≡ open_banner (take count lines) → IsOpenBlock (kind_at lines) count block → ((place : ℕ) → IsOrphan lines place → ⊥) →
+all-stand : (lines : List (List ℕ)) (count : ℕ) (banner : Option Delimiter) (block : ℕ) (rest : List (List ℕ)) → drop count lines ≡ rest →
+    banner ≡ open_banner (take count lines) → IsOpenBlock (kind_at lines) count block → ((place : ℕ) → IsOrphan lines place → ⊥) →
     AllByRecursion NotAlone (seen_from count banner block rest)
 all-stand lines count banner block [] there is open_block none = tt
 all-stand lines count banner block (line ∷ rest) there is open_block none =
@@ -61,11 +64,13 @@ all-stand lines count banner block (line ∷ rest) there is open_block none =
     let kind = kind-next lines count line rest banner there is in
     let at = stands_at lines count line rest there in (
       alone-after k (count + 1) block ∙ not-alone lines count line rest k block there kind open_block (none count),
-      all-stand lines (count + 1) (after_line banner line) (block_after k (count + 1) block) rest at.left (banner-next lines count line rest banner there is) (open-step (kind_at lines) count block k kind open_block) none,
+      all-stand lines (count + 1) (after_line banner line) (block_after k (count + 1) block) rest at.left (banner-next lines count line rest banner there is)
+          (open-step (kind_at lines) count block k kind open_block) none,
     )
 
 -- no line is an orphan where each is seen in a block or needs none
-none-alone : (lines : List (List ℕ)) (count : ℕ) (banner : Option Delimiter) (block : ℕ) (rest : List (List ℕ)) → drop count lines ≡ rest → banner ≡ open_banner (take count lines) → IsOpenBlock (kind_at lines) count block →
+none-alone : (lines : List (List ℕ)) (count : ℕ) (banner : Option Delimiter) (block : ℕ) (rest : List (List ℕ)) → drop count lines ≡ rest →
+    banner ≡ open_banner (take count lines) → IsOpenBlock (kind_at lines) count block →
     AllByRecursion NotAlone (seen_from count banner block rest) → (place : ℕ) → count ≤ place → IsOrphan lines place → ⊥
 none-alone lines count banner block [] there is open_block all place high orphan =
     let within : place < length lines = orphan.within in
@@ -78,7 +83,8 @@ none-alone lines count banner block (line ∷ rest) there is open_block all plac
     let test : is_alone k block ≡ false = sym (alone-after k (count + 1) block) ∙ all.0 in
     ⊎_elim
     (λ here. no-orphan lines count block k kind open_block test (subst (IsOrphan lines) here orphan))
-    (λ other. none-alone lines (count + 1) (after_line banner line) (block_after k (count + 1) block) rest at.left (banner-next lines count line rest banner there is) (open-step (kind_at lines) count block k kind open_block) all.1 place (omega arith) orphan)
+    (λ other. none-alone lines (count + 1) (after_line banner line) (block_after k (count + 1) block) rest at.left (banner-next lines count line rest banner there is)
+    (open-step (kind_at lines) count block k kind open_block) all.1 place (omega arith) orphan)
     (cases_eq place count)
 
 none-open : (lines : List (List ℕ)) → IsOpenBlock (kind_at lines) 0 0

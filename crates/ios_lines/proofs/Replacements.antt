@@ -13,25 +13,31 @@ use Rattle.ios_lines.proofs.Insertions.{seen-append, length-seen, opens-none}
 use Rattle.ios_lines.proofs.Orphans.{NotAlone, stand-all, alone-none}
 use Rattle.ios_lines.proofs.ViewRows.{kind-next}
 
-pub changed-at : {A : Type 0} → (place : ℕ) (change : A → A) (front : List A) (item : A) (back : List A) → length front ≡ place → changed place change (front ++ item ∷ back) ≡ front ++ change item ∷ back
+pub changed-at : {A : Type 0} → (place : ℕ) (change : A → A) (front : List A) (item : A) (back : List A) → length front ≡ place →
+    changed place change (front ++ item ∷ back) ≡ front ++ change item ∷ back
 changed-at place change [] item back is = ap (λ n. changed n change (item ∷ back)) (sym is)
 changed-at place change (x ∷ front) item back is =
     ap (λ n. changed n change (x ∷ (front ++ item ∷ back))) (sym is) ∙ ap (λ xs. x ∷ xs) (changed-at (length front) change front item back refl)
 
 -- what is open after a line is so after another of its kind that is no banner's
-seen-change : (front back : List (List ℕ)) (old line : List ℕ) → open_banner front ≡ None → kind line ≢ Banner → kind old ≡ kind line → seen (front ++ line ∷ back) ≡ changed (length front) (seen_written line) (seen (front ++ old ∷ back))
+seen-change : (front back : List (List ℕ)) (old line : List ℕ) → open_banner front ≡ None → kind line ≢ Banner → kind old ≡ kind line →
+    seen (front ++ line ∷ back) ≡ changed (length front) (seen_written line) (seen (front ++ old ∷ back))
 seen-change front back old line outside no_banner alike =
     let block = open_block front in
     let count = 0 + length front in
-    let tail : seen_from (count + 1) (after_line None old) (block_after (kind old) (count + 1) block) back ≡ seen_from (count + 1) (after_line None line) (block_after (kind line) (count + 1) block) back =
+    let tail : seen_from (count + 1) (after_line None old) (block_after (kind old) (count + 1) block) back ≡ seen_from (count + 1) (after_line None line)
+    (block_after (kind line) (count + 1) block) back =
     ap (λ k. seen_from (count + 1) (opened k old) (block_after k (count + 1) block) back) alike
     ∙ ap (λ d. seen_from (count + 1) d (block_after (kind line) (count + 1) block) back) (opens-none (kind line) old no_banner ∙ sym (opens-none (kind line) line no_banner)) in
-    let new : seen (front ++ line ∷ back) ≡ seen_from 0 None 0 front ++ seen_in (count + 1) line (kind line) block ∷ seen_from (count + 1) (after_line None line) (block_after (kind line) (count + 1) block) back =
+    let new : seen (front ++ line ∷ back) ≡ seen_from 0 None 0 front ++ seen_in (count + 1) line (kind line) block ∷ seen_from (count + 1) (after_line None line)
+    (block_after (kind line) (count + 1) block) back =
     seen-append 0 None 0 front (line ∷ back) ∙ ap (λ d. seen_from 0 None 0 front ++ seen_from count d block (line ∷ back)) outside in
-    let was : seen (front ++ old ∷ back) ≡ seen_from 0 None 0 front ++ seen_in (count + 1) old (kind old) block ∷ seen_from (count + 1) (after_line None old) (block_after (kind old) (count + 1) block) back =
+    let was : seen (front ++ old ∷ back) ≡ seen_from 0 None 0 front ++ seen_in (count + 1) old (kind old) block ∷ seen_from (count + 1) (after_line None old)
+    (block_after (kind old) (count + 1) block) back =
     seen-append 0 None 0 front (old ∷ back) ∙ ap (λ d. seen_from 0 None 0 front ++ seen_from count d block (old ∷ back)) outside in
     new
-    ∙ ap (λ k. seen_from 0 None 0 front ++ record { bytes = line; kind = k; block = block_after k (count + 1) block } ∷ seen_from (count + 1) (after_line None line) (block_after (kind line) (count + 1) block) back) (sym alike)
+    ∙ ap (λ k. seen_from 0 None 0 front ++ record { bytes = line; kind = k; block = block_after k (count + 1) block } ∷ seen_from (count + 1) (after_line None line)
+    (block_after (kind line) (count + 1) block) back) (sym alike)
     ∙ ap (λ rest. seen_from 0 None 0 front ++ record { bytes = line; kind = kind old; block = block_after (kind old) (count + 1) block } ∷ rest) (sym tail)
     ∙ sym (ap (changed (length front) (seen_written line)) was ∙ changed-at (length front) (seen_written line) (seen_from 0 None 0 front) _ _ (length-seen 0 None 0 front))
 

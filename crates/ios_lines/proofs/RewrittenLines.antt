@@ -1,5 +1,6 @@
 -- A line of which one word is another may take its place.
-use Rattle.std.proofs.Common.{◌≡◌, ◌≢◌, ℕ, zero, suc, ◌+◌, ◌-◌, ◌<◌, ◌≤◌, ◌⊎◌, inl, inr, nat_lt, Bool, true, false, cond, List, [], ◌∷◌, ◌++◌, map, length, length-append, length-take-le, take, slice_get, get_or, Some, refl, sym, ap, subst, ◌∙◌, arith, ⊎_elim, slice_index, slice_range, IsFalse, append-nil}
+use Rattle.std.proofs.Common.{◌≡◌, ◌≢◌, ℕ, zero, suc, ◌+◌, ◌-◌, ◌<◌, ◌≤◌, ◌⊎◌, inl, inr, nat_lt, Bool, true, false, cond, List, [], ◌∷◌}
+use Rattle.std.proofs.Common.{◌++◌, map, length, length-append, length-take-le, take, slice_get, get_or, Some, refl, sym, ap, subst, ◌∙◌, arith, ⊎_elim, slice_index, slice_range, IsFalse, append-nil}
 use Rattle.std.proofs.lemmas.Bool.{cases_eq, cases_lt, and_parts, ltb-true, cond-false}
 use Rattle.std.proofs.lemmas.List.{nil_from_length, length-map}
 use Rattle.std.proofs.lemmas.Option.{same_Some, none-some, slice_get-map}
@@ -113,7 +114,8 @@ first-later : (text : List ℕ) (at from : ℕ) (spans : List Span) → 0 < leng
 first-later text at from [] some words = absurd (omega arith)
 first-later text at from (w ∷ spans) some (next, rest) = let low : at ≤ w.from = next.after in let long : w.from < w.to = next.some in let high : w.to ≤ from = next.within in omega arith
 
-module _ (text : List ℕ) (row : Line) (k : ℕ) (span : Span) (other : List ℕ) (ends : IsLine text row.span.from row.span.to row.end) (are : AreWords text row.span.from row.span.to row.words) (is : slice_get row.words k ≡ Some span) (plain : is_plain other ≡ true) where
+module _ (text : List ℕ) (row : Line) (k : ℕ) (span : Span) (other : List ℕ) (ends : IsLine text row.span.from row.span.to row.end)
+    (are : AreWords text row.span.from row.span.to row.words) (is : slice_get row.words k ≡ Some span) (plain : is_plain other ≡ true) where
   abbrev before : List ℕ
   before = slice_range text row.span.from span.from
 
@@ -158,7 +160,8 @@ module _ (text : List ℕ) (row : Line) (k : ℕ) (span : Span) (other : List �
       let here : slice_index after (length after - 1) ≡ 13 = sym (last-append other after left) ∙ last in
       let place : span.to + (length after - 1) ≡ row.span.from + (length (part text row.span) - 1) = omega arith in
       let old_last : slice_index (part text row.span) (length (part text row.span) - 1) ≡ 13 =
-      slice-at text row.span.from row.span.to (length (part text row.span) - 1) (omega arith) ∙ ap (slice_index text) (sym place) ∙ sym (slice-at text span.to row.span.to (length after - 1) (omega arith)) ∙ here in
+      slice-at text row.span.from row.span.to (length (part text row.span) - 1) (omega arith) ∙ ap (slice_index text) (sym place)
+      ∙ sym (slice-at text span.to row.span.to (length after - 1) (omega arith)) ∙ here in
       old (omega arith) old_last)
       (λ none.
       let gone : after ≡ [] = nil_from_length after (omega arith) in
@@ -168,8 +171,10 @@ module _ (text : List ℕ) (row : Line) (k : ℕ) (span : Span) (other : List �
       (cases_lt 0 (length after))
 
 -- the kind of a line of which one word is another
-kind-rewritten : (text : List ℕ) (row : Line) (k : ℕ) (span : Span) (other : List ℕ) → IsLine text row.span.from row.span.to row.end → AreWords text row.span.from row.span.to row.words → slice_get row.words k ≡ Some span → is_plain other ≡ true →
-    words (part text row.span) ≡ map (part text) row.words → (2 ≤ k) ⊎ ((k ≡ 0) × (kind (part text row.span) ≡ Inner) × (is_mark other ≡ false)) → kind (rewritten text row span other) ≡ kind (part text row.span)
+kind-rewritten : (text : List ℕ) (row : Line) (k : ℕ) (span : Span) (other : List ℕ) → IsLine text row.span.from row.span.to row.end →
+    AreWords text row.span.from row.span.to row.words → slice_get row.words k ≡ Some span → is_plain other ≡ true →
+    words (part text row.span) ≡ map (part text) row.words → (2 ≤ k) ⊎ ((k ≡ 0) × (kind (part text row.span) ≡ Inner) × (is_mark other ≡ false)) →
+    kind (rewritten text row span other) ≡ kind (part text row.span)
 kind-rewritten text row k span other ends are is plain texts free =
     let bounds = line-bounds text row.span.from row.span.to row.end ends in
     let w = word-at text row.span.from row.span.to row.words k span are is in
@@ -183,7 +188,8 @@ kind-rewritten text row k span other ends are is plain texts free =
     let same_front : row.span.from < span.from → is_indented (rewritten text row span other) ≡ is_indented (part text row.span) = λ more.
     indented-front before (other ++ slice_range text span.to row.span.to) (slice_range text span.from row.span.to) (omega arith) ∙ ap is_indented (sym whole) in
     let new : row.span.from < span.from → kind (rewritten text row span other) ≡ words_kind (is_indented (part text row.span)) (replaced k other (words (part text row.span))) = λ more.
-    ap (λ i. words_kind i (words (rewritten text row span other))) (same_front more) ∙ ap (words_kind (is_indented (part text row.span))) (new-words text row k span other ends are is plain ∙ ap (replaced k other) (sym texts)) in
+    ap (λ i. words_kind i (words (rewritten text row span other))) (same_front more)
+    ∙ ap (words_kind (is_indented (part text row.span))) (new-words text row k span other ends are is plain ∙ ap (replaced k other) (sym texts)) in
     let number : length (words (part text row.span)) ≡ length row.words = ap length texts ∙ length-map row.words (part text) in
     ⊎_elim
     (λ later.

@@ -1,5 +1,6 @@
 -- A line of which one word is another.
-use Rattle.std.proofs.Common.{◌≡◌, ℕ, zero, suc, ◌+◌, ◌-◌, ◌<◌, ◌≤◌, ◌⊎◌, inl, inr, true, false, List, [], ◌∷◌, ◌++◌, map, length, take, drop, slice_get, Some, refl, sym, ap, subst, ◌∙◌, arith, ⊎_elim, slice_index, slice_range, IsTrue, IsFalse, append_assoc, append-nil, filter}
+use Rattle.std.proofs.Common.{◌≡◌, ℕ, zero, suc, ◌+◌, ◌-◌, ◌<◌, ◌≤◌, ◌⊎◌, inl, inr, true, false, List, [], ◌∷◌, ◌++◌, map}
+use Rattle.std.proofs.Common.{length, take, drop, slice_get, Some, refl, sym, ap, subst, ◌∙◌, arith, ⊎_elim, slice_index, slice_range, IsTrue, IsFalse, append_assoc, append-nil, filter}
 use Rattle.std.proofs.lemmas.Bool.{cases_eq, cases_lt, cases_Bool}
 use Rattle.std.proofs.lemmas.List.{drop_more}
 use Rattle.std.proofs.lemmas.List.Elements.{filter-append}
@@ -26,8 +27,10 @@ split-some line = let parts = split-first line in let count = ap length parts.1 
 split-cut : (xs ys : List ℕ) (b : ℕ) → is_blank b ≡ true → slice_split is_blank (xs ++ b ∷ ys) ≡ slice_split is_blank xs ++ slice_split is_blank ys
 split-cut [] ys b blank = slice_split-cons_yes is_blank b ys blank
 split-cut (x ∷ xs) ys b blank = ⊎_elim
-    (λ yes. slice_split-cons_yes is_blank x (xs ++ b ∷ ys) yes ∙ ap (λ parts. [] ∷ parts) (split-cut xs ys b blank) ∙ ap (λ parts. parts ++ slice_split is_blank ys) (sym (slice_split-cons_yes is_blank x xs yes)))
-    (λ no_blank. slice_split-cons_no is_blank x (xs ++ b ∷ ys) no_blank ∙ ap (onto_first x) (split-cut xs ys b blank) ∙ onto-append x (slice_split is_blank xs) (slice_split is_blank ys) (split-some xs)
+    (λ yes. slice_split-cons_yes is_blank x (xs ++ b ∷ ys) yes ∙ ap (λ parts. [] ∷ parts) (split-cut xs ys b blank)
+    ∙ ap (λ parts. parts ++ slice_split is_blank ys) (sym (slice_split-cons_yes is_blank x xs yes)))
+    (λ no_blank. slice_split-cons_no is_blank x (xs ++ b ∷ ys) no_blank ∙ ap (onto_first x) (split-cut xs ys b blank)
+    ∙ onto-append x (slice_split is_blank xs) (slice_split is_blank ys) (split-some xs)
     ∙ ap (λ parts. parts ++ slice_split is_blank ys) (sym (slice_split-cons_no is_blank x xs no_blank)))
     (cases_Bool (is_blank x))
 
@@ -45,7 +48,8 @@ words-before before rest (inr (front, b, is, blank)) =
     ∙ ap (λ ws. ws ++ words rest) (sym (ap words is ∙ words-cut front [] b blank ∙ append-nil (words front)))
 
 -- a word among others
-pub words-apart : (before word after : List ℕ) → EndsBlank before → 0 < length word → ((k : ℕ) → k < length word → IsFalse (is_blank (slice_index word k))) → BeginsBlank after → words (before ++ (word ++ after)) ≡ words before ++ word ∷ words after
+pub words-apart : (before word after : List ℕ) → EndsBlank before → 0 < length word → ((k : ℕ) → k < length word → IsFalse (is_blank (slice_index word k))) →
+    BeginsBlank after → words (before ++ (word ++ after)) ≡ words before ++ word ∷ words after
 words-apart before word after ends some filled begins = words-before before (word ++ after) ends ∙ ap (λ ws. words before ++ ws) (words-after_word word after some filled begins)
 
 -- where a word of a line stands
@@ -111,7 +115,8 @@ ends-blank text at from low within blank = ⊎_elim
     (cases_lt at from)
 
 -- the items before one, another, and the items after it
-replaced-parts : {A B : Type 0} → (f : A → B) (items : List A) (k : ℕ) (x : A) (other : B) → slice_get items k ≡ Some x → replaced k other (map f items) ≡ map f (take k items) ++ other ∷ map f (drop (k + 1) items)
+replaced-parts : {A B : Type 0} → (f : A → B) (items : List A) (k : ℕ) (x : A) (other : B) → slice_get items k ≡ Some x →
+    replaced k other (map f items) ≡ map f (take k items) ++ other ∷ map f (drop (k + 1) items)
 replaced-parts f [] k x other is = absurd (none-some x is)
 replaced-parts f (y ∷ items) zero x other is = refl
 replaced-parts f (y ∷ items) (suc k) x other is =
@@ -120,7 +125,8 @@ replaced-parts f (y ∷ items) (suc k) x other is =
 
 -- the words of a line of which one is another
 pub words-rewritten : (text : List ℕ) (at to : ℕ) (spans : List Span) (k : ℕ) (span : Span) (other : List ℕ) → at ≤ to → to ≤ length text → AreWords text at to spans → slice_get spans k ≡ Some span →
-    0 < length other → ((place : ℕ) → place < length other → IsFalse (is_blank (slice_index other place))) → words (slice_range text at span.from ++ (other ++ slice_range text span.to to)) ≡ replaced k other (map (part text) spans)
+    0 < length other → ((place : ℕ) → place < length other → IsFalse (is_blank (slice_index other place))) →
+    words (slice_range text at span.from ++ (other ++ slice_range text span.to to)) ≡ replaced k other (map (part text) spans)
 words-rewritten text at to spans k span other order within are is some filled =
     let w = word-at text at to spans k span are is in
     let low : at ≤ span.from = w.low in

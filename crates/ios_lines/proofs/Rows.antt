@@ -1,5 +1,6 @@
 -- One more line, and its row.
-use Rattle.std.proofs.Common.{◌≡◌, ℕ, suc, ◌+◌, ◌-◌, ◌<◌, ◌≤◌, true, false, List, [], ◌∷◌, ◌++◌, map, length, length-drop, take, drop, get_or, slice_range, sym, ap, subst, ◌∙◌, arith, ⊎_elim, add-one, None, IsSome}
+use Rattle.std.proofs.Common.{◌≡◌, ℕ, suc, ◌+◌, ◌-◌, ◌<◌, ◌≤◌, true, false, List, [], ◌∷◌, ◌++◌, map}
+use Rattle.std.proofs.Common.{length, length-drop, take, drop, get_or, slice_range, sym, ap, subst, ◌∙◌, arith, ⊎_elim, add-one, None, IsSome}
 use Rattle.std.proofs.lemmas.Bool.{cases_eq}
 use Rattle.std.proofs.lemmas.List.{drop_more, take_more}
 use Rattle.std.proofs.lemmas.List.Sums.{fold-append}
@@ -34,17 +35,20 @@ stands_at lines count line rest is =
     record { more = more; here = here; left = cc; front = take_more lines count [] more ∙ ap (λ l. take count lines ++ l ∷ []) here }
 
 -- what the next line is
-kind-here : (lines : List (List ℕ)) (state : Open) (line : List ℕ) (rest : List (List ℕ)) (k : Kind) → At lines state.count line rest → state.banner ≡ open_banner (take state.count lines) → k ≡ kind_within state.banner line → kind_at lines state.count ≡ k
+kind-here : (lines : List (List ℕ)) (state : Open) (line : List ℕ) (rest : List (List ℕ)) (k : Kind) → At lines state.count line rest →
+    state.banner ≡ open_banner (take state.count lines) → k ≡ kind_within state.banner line → kind_at lines state.count ≡ k
 kind-here lines state line rest k there banner is =
     ap (λ l. kind_within (open_banner (take state.count lines)) l) there.here ∙ ap (λ b. kind_within b line) (sym banner) ∙ sym is
 
 -- the banner that is open after the next line
-banner-step : (lines : List (List ℕ)) (state : Open) (line : List ℕ) (rest : List (List ℕ)) → At lines state.count line rest → state.banner ≡ open_banner (take state.count lines) → open_banner (take (state.count + 1) lines) ≡ after_line state.banner line
+banner-step : (lines : List (List ℕ)) (state : Open) (line : List ℕ) (rest : List (List ℕ)) → At lines state.count line rest →
+    state.banner ≡ open_banner (take state.count lines) → open_banner (take (state.count + 1) lines) ≡ after_line state.banner line
 banner-step lines state line rest there banner =
     ap open_banner there.front ∙ fold-append after_line None (take state.count lines) (line ∷ []) ∙ ap (λ b. after_line b line) (sym banner)
 
 -- the orphan that the code finds is the first
-pub orphan-here : (text : List ℕ) (at to end : ℕ) (state : Open) (k : Kind) → at < length text → Stands text at state → IsLine text at to end → k ≡ kind_within state.banner (slice_range text at to) → is_alone k state.block ≡ true → HasOrphanAt text (state.count + 1)
+pub orphan-here : (text : List ℕ) (at to end : ℕ) (state : Open) (k : Kind) → at < length text → Stands text at state → IsLine text at to end →
+    k ≡ kind_within state.banner (slice_range text at to) → is_alone k state.block ≡ true → HasOrphanAt text (state.count + 1)
 orphan-here text at to end state k some stands line is test =
     let next : drop state.count (text_lines text) ≡ slice_range text at to ∷ text_lines (drop (to + end) text) = stands.lines ∙ line-step text at to end some line in
     let there = stands_at (text_lines text) state.count _ _ next in
@@ -53,7 +57,8 @@ orphan-here text at to end state k some stands line is test =
     let orphan : IsOrphan (text_lines text) state.count = record { within = there.more; inner = kind; alone = subst (IsOpenBlock (kind_at (text_lines text)) state.count) both.1 stands.block } in
     subst (IsFirstOrphan (text_lines text)) (sym (add-one state.count)) (orphan, stands.no_orphan)
 
-module _ (text : List ℕ) (at : ℕ) (state after : Open) (line : Line) (k : Kind) (some : at < length text) (stands : Stands text at state) (begins : line.span.from ≡ at) (ends : IsLine text at line.span.to line.end)
+module _ (text : List ℕ) (at : ℕ) (state after : Open) (line : Line) (k : Kind) (some : at < length text) (stands : Stands text at state) (begins : line.span.from ≡ at)
+    (ends : IsLine text at line.span.to line.end)
     (is : k ≡ kind_within state.banner (slice_range text at line.span.to)) (test : is_alone k state.block ≡ false)
     (count : after.count ≡ state.count + 1) (block : after.block ≡ block_after k (state.count + 1) state.block) (banner : after.banner ≡ after_line state.banner (slice_range text at line.span.to))
     (first : after.first ≡ first_after state.banner (state.count + 1) state.first) where
@@ -100,14 +105,16 @@ module _ (text : List ℕ) (at : ℕ) (state after : Open) (line : Line) (k : Ki
         no_orphan = next-orphans;
       }
 
-  pub is-next : line.block ≡ after.block → line.head ≡ is_head k → line.inert ≡ is_inert k → AreWords text at line.span.to line.words → map (part text) line.words ≡ words (slice_range text at line.span.to) → IsNext text at state line after
+  pub is-next : line.block ≡ after.block → line.head ≡ is_head k → line.inert ≡ is_inert k → AreWords text at line.span.to line.words →
+      map (part text) line.words ≡ words (slice_range text at line.span.to) → IsNext text at state line after
   is-next same_block head inert spans texts =
       let bounds = line-bounds text at line.span.to line.end ends in
       let here : part text line.span ≡ slice_range text at line.span.to = ap (λ from. slice_range text from line.span.to) begins in
       record {
         begins = begins;
         ends = ends;
-        bytes = next-lines ∙ ap (λ l. l ∷ text_lines (drop (line.span.to + line.end) text)) (sym here) ∙ ap (λ rest. part text line.span ∷ rest) (sym (ap (λ n. drop n (text_lines text)) count ∙ next-at.left));
+        bytes = next-lines ∙ ap (λ l. l ∷ text_lines (drop (line.span.to + line.end) text)) (sym here)
+            ∙ ap (λ rest. part text line.span ∷ rest) (sym (ap (λ n. drop n (text_lines text)) count ∙ next-at.left));
         row = record {
           spans = subst (λ from. AreWords text from line.span.to line.words) (sym begins) spans;
           texts = texts ∙ ap words (sym here);

@@ -16,7 +16,8 @@ use Rattle.ios_lines.proofs.Rows.{stands_at}
 use Rattle.ios_lines.proofs.ViewRows.{kind-next, banner-next}
 
 -- the block of a line is the one that is open after it
-seen-open : (lines : List (List ℕ)) (count : ℕ) (banner : Option Delimiter) (block : ℕ) (rest : List (List ℕ)) (k : ℕ) (s : Seen) → drop count lines ≡ rest → banner ≡ open_banner (take count lines) → IsOpenBlock (kind_at lines) count block →
+seen-open : (lines : List (List ℕ)) (count : ℕ) (banner : Option Delimiter) (block : ℕ) (rest : List (List ℕ)) (k : ℕ) (s : Seen) → drop count lines ≡ rest →
+    banner ≡ open_banner (take count lines) → IsOpenBlock (kind_at lines) count block →
     slice_get (seen_from count banner block rest) k ≡ Some s → IsOpenBlock (kind_at lines) (count + 1 + k) s.block
 seen-open lines count banner block [] k s there is open_now at = absurd (none-some s at)
 seen-open lines count banner block (line ∷ rest) zero s there is open_now at =
@@ -29,7 +30,8 @@ seen-open lines count banner block (line ∷ rest) (suc k) s there is open_now a
     let next = stands_at lines count line rest there in
     let number : count + 1 + 1 + k ≡ count + 1 + suc k = omega arith in
     subst (λ n. IsOpenBlock (kind_at lines) n s.block) number
-    (seen-open lines (count + 1) (after_line banner line) (block_after (kind_within banner line) (count + 1) block) rest k s next.left (banner-next lines count line rest banner there is) (open-step (kind_at lines) count block (kind_within banner line) kind open_now) at)
+    (seen-open lines (count + 1) (after_line banner line) (block_after (kind_within banner line) (count + 1) block) rest k s next.left
+    (banner-next lines count line rest banner there is) (open-step (kind_at lines) count block (kind_within banner line) kind open_now) at)
 
 none-open : (lines : List (List ℕ)) → IsOpenBlock (kind_at lines) 0 0
 none-open lines head heads = let low : head < 0 = heads.before in absurd (omega arith)

@@ -25,18 +25,21 @@ same-mark m n words block head inert =
     ∙ ap (λ h. of_parts n.words n.block h m.inert) head ∙ ap (of_parts n.words n.block n.head) inert
 
 -- what the next line is
-pub kind-next : (lines : List (List ℕ)) (count : ℕ) (line : List ℕ) (rest : List (List ℕ)) (banner : Option Delimiter) → drop count lines ≡ line ∷ rest → banner ≡ open_banner (take count lines) → kind_at lines count ≡ kind_within banner line
+pub kind-next : (lines : List (List ℕ)) (count : ℕ) (line : List ℕ) (rest : List (List ℕ)) (banner : Option Delimiter) → drop count lines ≡ line ∷ rest →
+    banner ≡ open_banner (take count lines) → kind_at lines count ≡ kind_within banner line
 kind-next lines count line rest banner there is =
     let at = stands_at lines count line rest there in
     ap (λ l. kind_within (open_banner (take count lines)) l) at.here ∙ ap (λ b. kind_within b line) (sym is)
 
 -- the banner that is open after it
-pub banner-next : (lines : List (List ℕ)) (count : ℕ) (line : List ℕ) (rest : List (List ℕ)) (banner : Option Delimiter) → drop count lines ≡ line ∷ rest → banner ≡ open_banner (take count lines) → after_line banner line ≡ open_banner (take (count + 1) lines)
+pub banner-next : (lines : List (List ℕ)) (count : ℕ) (line : List ℕ) (rest : List (List ℕ)) (banner : Option Delimiter) → drop count lines ≡ line ∷ rest →
+    banner ≡ open_banner (take count lines) → after_line banner line ≡ open_banner (take (count + 1) lines)
 banner-next lines count line rest banner there is =
     let at = stands_at lines count line rest there in
     sym (ap open_banner at.front ∙ fold-append after_line None (take count lines) (line ∷ []) ∙ ap (λ b. after_line b line) (sym is))
 
-row-of-seen : (text : List ℕ) (count : ℕ) (line : List ℕ) (rest : List (List ℕ)) (row : Line) (banner : Option Delimiter) (block : ℕ) → drop count (text_lines text) ≡ line ∷ rest → part text row.span ≡ line → IsRow text count row →
+row-of-seen : (text : List ℕ) (count : ℕ) (line : List ℕ) (rest : List (List ℕ)) (row : Line) (banner : Option Delimiter) (block : ℕ) →
+    drop count (text_lines text) ≡ line ∷ rest → part text row.span ≡ line → IsRow text count row →
     banner ≡ open_banner (take count (text_lines text)) → IsOpenBlock (kind_at (text_lines text)) count block → mark_of text row ≡ mark_seen (seen_in (count + 1) line (kind_within banner line) block)
 row-of-seen text count line rest row banner block there same row-is is open_block =
     let kind = kind-next (text_lines text) count line rest banner there is in
@@ -71,4 +74,5 @@ rows-seen text count (line ∷ rest) (row ∷ rows) banner block there bytes all
 -- the rows of a text say what its lines are seen to say
 pub rows-are-seen : RowsAreSeen
 rows-are-seen text lines is =
-    rows-seen text 0 (text_lines text) lines.rows None 0 refl is.texts (λ place line h. subst (λ n. IsRow text n line) (omega arith) (is.rows place line h)) refl (λ head heads. let low : head < 0 = heads.before in absurd (omega arith))
+    rows-seen text 0 (text_lines text) lines.rows None 0 refl is.texts (λ place line h. subst (λ n. IsRow text n line) (omega arith) (is.rows place line h)) refl
+    (λ head heads. let low : head < 0 = heads.before in absurd (omega arith))

@@ -1,5 +1,6 @@
 -- How a line falls into words.
-use Rattle.std.proofs.Common.{Option, Some, None, length-drop, ◌≡◌, ℕ, ◌<◌, ◌≤◌, suc, Bool, true, false, not, cond, List, [], ◌∷◌, length, take, drop, refl, sym, ap, subst, ◌∙◌, arith, ⊎_elim, nat_lt, filter, unwrap_or}
+use Rattle.std.proofs.Common.{Option, Some, None, length-drop, ◌≡◌, ℕ, ◌<◌, ◌≤◌, suc, Bool, true, false, not, cond, List}
+use Rattle.std.proofs.Common.{[], ◌∷◌, length, take, drop, refl, sym, ap, subst, ◌∙◌, arith, ⊎_elim, nat_lt, filter, unwrap_or}
 use Rattle.std.proofs.lemmas.Bool.{cases_Bool, ltb-false, cond-true, cond-false}
 use Rattle.std.proofs.lemmas.List.Splits.{slice_split-cons_yes, slice_split-cons_no}
 use Rattle.std.proofs.lemmas.List.{drop_all}
@@ -63,9 +64,13 @@ words-blanks (b ∷ line) = ⊎_elim
 pub split-first : (line : List ℕ) → (rest : List (List ℕ)) × (slice_split is_blank line ≡ take (front is_blank line) line ∷ rest) × (kept rest ≡ words (drop (front is_blank line) line))
 split-first [] = ([], refl, refl)
 split-first (b ∷ line) = ⊎_elim
-    (λ blank. subst (λ v. (rest : List (List ℕ)) × (slice_split is_blank (b ∷ line) ≡ take (cond v 0 (suc (front is_blank line))) (b ∷ line) ∷ rest) × (kept rest ≡ words (drop (cond v 0 (suc (front is_blank line))) (b ∷ line)))) (sym blank)
+    (λ blank. subst (λ v.
+    (rest : List (List ℕ)) × (slice_split is_blank (b ∷ line) ≡ take (cond v 0 (suc (front is_blank line))) (b ∷ line) ∷ rest) × (kept rest ≡ words
+    (drop (cond v 0 (suc (front is_blank line))) (b ∷ line)))) (sym blank)
     (slice_split is_blank line, slice_split-cons_yes is_blank b line blank, sym (words-blank b line blank)))
-    (λ other. subst (λ v. (rest : List (List ℕ)) × (slice_split is_blank (b ∷ line) ≡ take (cond v 0 (suc (front is_blank line))) (b ∷ line) ∷ rest) × (kept rest ≡ words (drop (cond v 0 (suc (front is_blank line))) (b ∷ line)))) (sym other)
+    (λ other. subst (λ v.
+    (rest : List (List ℕ)) × (slice_split is_blank (b ∷ line) ≡ take (cond v 0 (suc (front is_blank line))) (b ∷ line) ∷ rest) × (kept rest ≡ words
+    (drop (cond v 0 (suc (front is_blank line))) (b ∷ line)))) (sym other)
     (let deeper = split-first line in
     (deeper.0, slice_split-cons_no is_blank b line other ∙ ap (onto_first b) deeper.1, deeper.2)))
     (cases_Bool (is_blank b))
@@ -78,7 +83,8 @@ first-here (b ∷ line) start some = ⊎_elim
     (λ other.
     let parts = split-first (b ∷ line) in
     let whole : words (b ∷ line) ≡ kept (take (cond (is_blank b) 0 (suc (front is_blank line))) (b ∷ line) ∷ parts.0) = ap kept parts.1 in
-    whole ∙ subst (λ v. kept (take (cond v 0 (suc (front is_blank line))) (b ∷ line) ∷ parts.0) ≡ take (cond v 0 (suc (front is_blank line))) (b ∷ line) ∷ words (drop (cond v 0 (suc (front is_blank line))) (b ∷ line))) (sym other)
+    whole ∙ subst (λ v. kept (take (cond v 0 (suc (front is_blank line))) (b ∷ line) ∷ parts.0) ≡ take (cond v 0 (suc (front is_blank line))) (b ∷ line) ∷ words
+    (drop (cond v 0 (suc (front is_blank line))) (b ∷ line))) (sym other)
     (ap (λ rest. (b ∷ take (front is_blank line) line) ∷ rest) (subst (λ v. kept parts.0 ≡ words (drop (cond v 0 (suc (front is_blank line))) (b ∷ line))) other parts.2)))
     (cases_Bool (is_blank b))
 

@@ -1,5 +1,6 @@
 -- The words of a line as spans.
-use Rattle.std.proofs.Common.{◌≡◌, ℕ, suc, ◌+◌, ◌-◌, ◌<◌, ◌≤◌, not, List, [], ◌∷◌, ◌++◌, map, length, take, drop, Result, Ok, Err, IfOk, IsTrue, IsFalse, refl, sym, ap, subst, ◌∙◌, arith, append-nil, slice_index, slice_range, All}
+use Rattle.std.proofs.Common.{◌≡◌, ℕ, suc, ◌+◌, ◌-◌, ◌<◌, ◌≤◌, not, List, [], ◌∷◌, ◌++◌, map, length, take, drop}
+use Rattle.std.proofs.Common.{Result, Ok, Err, IfOk, IsTrue, IsFalse, refl, sym, ap, subst, ◌∙◌, arith, append-nil, slice_index, slice_range, All}
 use Rattle.std.proofs.Math.Seq.{take-append_seam, drop-append_seam}
 use Rattle.std.proofs.lemmas.Bool.{cond-true, cond-false}
 use Rattle.std.proofs.lemmas.List.Elements.{All-nil, All-cons}
@@ -65,7 +66,8 @@ spans-words text at to (w ∷ ws) order within (next, rest) =
     ap is_blank (slice-at text w.from w.to k (omega arith)) ∙ next.filled (w.from + k) (omega arith) (omega arith) in
     let begins : BeginsBlank after = λ some_left.
     ap is_blank (slice-at text w.to to 0 (omega arith) ∙ ap (slice_index text) (omega arith)) ∙ next.whole (omega arith) in
-    let cut : slice_range text at to ≡ before ++ (word ++ after) = slice-cut text at w.from to later (omega arith) ∙ ap (λ bytes. before ++ bytes) (slice-cut text w.from w.to to (omega arith) inside) in
+    let cut : slice_range text at to ≡ before ++ (word ++ after) =
+    slice-cut text at w.from to later (omega arith) ∙ ap (λ bytes. before ++ bytes) (slice-cut text w.from w.to to (omega arith) inside) in
     ap (λ parts. word ∷ parts) (spans-words text w.to to ws inside within rest)
     ∙ sym (ap words cut ∙ words-after_blanks before (word ++ after) (blank-part text at w.from (omega arith) next.blanks) ∙ words-after_word word after (omega arith) filled begins)
 

@@ -1,6 +1,6 @@
 //! Banners: what ends them, and where they end.
-ghost use Rattle.std.specs.Prelude.{◌≡◌, drop};
 ghost use Rattle.ios_lines.specs.Banners.{banner_text, begun, delimiter, has_pair, size, stands};
+ghost use Rattle.std.specs.Prelude.{◌≡◌, drop};
 
 use crate::blanks::{first_word, without_blanks};
 

@@ -1,9 +1,9 @@
 //! Blanks and the words between them.
-ghost use Rattle.std.specs.Prelude.{◌≡◌, ◌↔◌, ◌∷◌, IsTrue, [], MatchOption, IfSome, not};
-ghost use Rattle.std.specs.List.{position};
+ghost use Rattle.arc_base.specs.Words.{is_blank, words};
 ghost use Rattle.ios_lines.specs.Banners.{after_word, skip};
 ghost use Rattle.ios_lines.specs.Kinds.{is_indented, is_mark};
-ghost use Rattle.arc_base.specs.Words.{is_blank, words};
+ghost use Rattle.std.specs.List.{position};
+ghost use Rattle.std.specs.Prelude.{◌≡◌, ◌∷◌, [], MatchOption, not};
 
 /// Whether a byte separates words.
 pub(crate) fn is_blank(byte: u8) -> bool

@@ -1,6 +1,6 @@
 //! A router file is cut into its lines.
-ghost use Rattle.std.specs.Prelude.{◌≡◌, ◌<◌, ◌^◌, ℕ, length, IfOk, IfErr, IsOk};
 ghost use Rattle.ios_lines.specs.Lines.{AreLinesOf, IsFaultOf, HasOrphanAt, HasOpenBannerAt};
+ghost use Rattle.std.specs.Prelude.{◌≡◌, ◌<◌, ◌^◌, ℕ, length, IfOk, IfErr, IsOk};
 
 use crate::line::Lines;
 use crate::reading::{Open, next_line};

@@ -1,6 +1,6 @@
 //! Where a line ends.
-ghost use Rattle.std.specs.Prelude.{◌≡◌, ◌<◌, ◌≤◌, length, slice_index};
 ghost use Rattle.ios_lines.specs.Texts.{HasNoFeed, IsLine};
+ghost use Rattle.std.specs.Prelude.{◌≡◌, ◌<◌, ◌≤◌, length, slice_index};
 
 use bstr::ByteSlice;
 

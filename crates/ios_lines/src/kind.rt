@@ -1,10 +1,10 @@
 //! What a line is.
-ghost use Rattle.std.specs.Prelude.{◌≡◌, ◌∷◌, [], codes};
-ghost use Rattle.std.specs.List.{starts_with};
-ghost use Rattle.std.specs.Str.{bytes_eq};
+ghost use Rattle.arc_base.specs.Words.{words};
 ghost use Rattle.ios_lines.specs.Kinds.{after_line, is_head, is_inert, kind, kind_within};
 ghost use Rattle.ios_lines.specs.Kinds.{opens_block, top_kind};
-ghost use Rattle.arc_base.specs.Words.{words};
+ghost use Rattle.std.specs.List.{starts_with};
+ghost use Rattle.std.specs.Prelude.{◌≡◌, ◌∷◌, []};
+ghost use Rattle.std.specs.Str.{bytes_eq};
 
 use crate::banner::{Delimiter, begun, stands};
 use crate::blanks::{first_word, is_indented, is_mark};

@@ -1,13 +1,13 @@
 //! Laws over the definitions alone: each is the contract of a function that does nothing.
-ghost use Rattle.ios_lines.specs.Laws.{BannersEndAtTheirDelimiter, LinesAreOneList, LinesJoin};
-ghost use Rattle.ios_lines.specs.Rewritten.{AWordMayBeReplaced};
-ghost use Rattle.ios_lines.specs.Written.{IndentedLinesAreInner, IndentedLinesAreWritten};
-ghost use Rattle.ios_lines.specs.Written.{TopLinesAreWritten, TopLinesHaveTheirKind};
 ghost use Rattle.ios_lines.specs.ChangeLaws.{AnInsertedLineStands, AReplacedLineStands};
 ghost use Rattle.ios_lines.specs.ChangeLaws.{BlocksHaveHeads, EndedLinesAreLines, EndedLinesJoin};
 ghost use Rattle.ios_lines.specs.ChangeLaws.{EndedLinesPart, InnerLinesMayStand, RowsAreEnded};
 ghost use Rattle.ios_lines.specs.ChangeLaws.{RowsAreSeen, RowsTellPlaces, SeveralChangesStand};
 ghost use Rattle.ios_lines.specs.ChangeLaws.{TopLinesMayStand};
+ghost use Rattle.ios_lines.specs.Laws.{BannersEndAtTheirDelimiter, LinesAreOneList, LinesJoin};
+ghost use Rattle.ios_lines.specs.Rewritten.{AWordMayBeReplaced};
+ghost use Rattle.ios_lines.specs.Written.{IndentedLinesAreInner, IndentedLinesAreWritten};
+ghost use Rattle.ios_lines.specs.Written.{TopLinesAreWritten, TopLinesHaveTheirKind};
 
 /// A text has at most one list of lines.
 pub fn lines_are_one_list()

@@ -1,8 +1,8 @@
 //! The next line of a file, and what is open after it.
-ghost use Rattle.std.specs.Prelude.{◌≡◌, ◌+◌, ◌-◌, ◌<◌, ◌^◌, length, None, IfOk, IfErr};
 ghost use Rattle.ios_lines.specs.Kinds.{after_line, kind_within};
 ghost use Rattle.ios_lines.specs.Lines.{IsFaultOf};
 ghost use Rattle.ios_lines.specs.Reading.{block_after, first_after, is_alone, IsNext, Stands};
+ghost use Rattle.std.specs.Prelude.{◌≡◌, ◌+◌, ◌-◌, ◌<◌, ◌^◌, length, None, IfOk, IfErr};
 
 use crate::banner::Delimiter;
 use crate::cutting::LineFault;

@@ -1,9 +1,9 @@
 //! The words of a line.
-ghost use Rattle.std.specs.Prelude.{◌≡◌, ◌<◌, ◌≤◌, ◌^◌, length, map, slice_index, slice_range};
-ghost use Rattle.std.specs.Prelude.{IsTrue, IsFalse, IfOk, MatchOption};
+ghost use Rattle.arc_base.specs.Words.{is_blank, words};
 ghost use Rattle.ios_lines.specs.Texts.{part};
 ghost use Rattle.ios_lines.specs.Words.{AreBlank, AreFilled, AreWords, IsNextWord};
-ghost use Rattle.arc_base.specs.Words.{is_blank, words};
+ghost use Rattle.std.specs.Prelude.{◌≡◌, ◌<◌, ◌≤◌, ◌^◌, length, map, slice_index, slice_range};
+ghost use Rattle.std.specs.Prelude.{IsTrue, IsFalse, IfOk, MatchOption};
 
 use crate::blanks::is_blank;
 use arc_base::{List, Memory, Span};

@@ -1,5 +1,6 @@
 -- A line has one answer, and what it means.
-use Rattle.std.proofs.Common.{◌≡◌, ◌≢◌, ℕ, zero, suc, Bool, true, false, List, [], ◌∷◌, ◌++◌, Contains, Option, Some, None, Result, Ok, Err, refl, sym, ap, subst, ◌∙◌, true≢false, find, IsFalse, arith}
+use Rattle.std.proofs.Common.{◌≡◌, ◌≢◌, ℕ, zero, suc, Bool, true, false, List, [], ◌∷◌, ◌++◌, Contains, Option}
+use Rattle.std.proofs.Common.{Some, None, Result, Ok, Err, refl, sym, ap, subst, ◌∙◌, true≢false, find, IsFalse, arith}
 use Rattle.std.proofs.lemmas.Bool.{cond-true, cond-false, and_parts}
 use Rattle.std.specs.List.{list_all}
 use Rattle.ios_lines.specs.declared.line.Line.{Line}
@@ -70,7 +71,8 @@ answer-fault extended words rules fault is =
     ap (λ o. picked extended words o (find (matches words) rules)) is.none ∙ (ap (picked extended words None) is.first ∙ ap (said is.rule.meaning) is.faulty)
 
 -- an answer is that by the rows of the block
-line_answer : (text : List ℕ) (line : Line) (within : BlockKind) (a : Result Command WordFault) → IsAnswer text line within a → a ≢ Err faults.Memory → answer (is_extended_block within) (line_words text line) (rows within) ≡ a
+line_answer : (text : List ℕ) (line : Line) (within : BlockKind) (a : Result Command WordFault) → IsAnswer text line within a → a ≢ Err faults.Memory →
+    answer (is_extended_block within) (line_words text line) (rows within) ≡ a
 line_answer text line within (Ok command) is told = answer-read (is_extended_block within) (line_words text line) (rows within) command is
 line_answer text line within (Err faults.Unknown) is told = answer-unknown (is_extended_block within) (line_words text line) (rows within) is
 line_answer text line within (Err (faults.BadWord place)) is told = answer-fault (is_extended_block within) (line_words text line) (rows within) (faults.BadWord place) is
@@ -78,7 +80,8 @@ line_answer text line within (Err faults.WildcardNotPrefix) is told = answer-fau
 line_answer text line within (Err faults.Memory) is told = absurd (told refl)
 
 pub one_answer :
-    (text : List ℕ) (line : Line) (within : BlockKind) (a b : Result Command WordFault) → IsAnswer text line within a → IsAnswer text line within b → a ≢ Err faults.Memory → b ≢ Err faults.Memory → a ≡ b
+    (text : List ℕ) (line : Line) (within : BlockKind) (a b : Result Command WordFault) → IsAnswer text line within a → IsAnswer text line within b →
+    a ≢ Err faults.Memory → b ≢ Err faults.Memory → a ≡ b
 one_answer text line within a b one two told told' = sym (line_answer text line within a one told) ∙ line_answer text line within b two told'
 
 -- a line has the answer that its block's rows give when they are tried
@@ -120,7 +123,8 @@ all_inert blocks.Extended = refl
 all_inert blocks.Standard = refl
 all_inert blocks.Inert = refl
 
-found_step : {X : Type 0} (p q : X → Bool) (z : X) (zs ys : List X) (x y : X) → q z ≡ true → Contains (z ∷ zs) x → p x ≡ true → find p (z ∷ (zs ++ ys)) ≡ Some y → (Contains zs x → find p (zs ++ ys) ≡ Some y → q y ≡ true) →
+found_step : {X : Type 0} (p q : X → Bool) (z : X) (zs ys : List X) (x y : X) → q z ≡ true → Contains (z ∷ zs) x → p x ≡ true →
+    find p (z ∷ (zs ++ ys)) ≡ Some y → (Contains zs x → find p (zs ++ ys) ≡ Some y → q y ≡ true) →
     (b : Bool) → p z ≡ b → q y ≡ true
 found_step p q z zs ys x y here has passes e later true is = let same : Some z ≡ Some y = sym (cond-true _ _ _ is) ∙ e in let at : z ≡ y = cc in subst (λ v. q v ≡ true) at here
 found_step p q z zs ys x y here (zero, low, same) passes e later false is = absurd (true≢false (sym passes ∙ (ap p (sym same) ∙ is)))
@@ -138,5 +142,6 @@ inert_gives _ values e = absurd (true≢false (sym e))
 
 pub inert_counts : InertCounts
 inert_counts text line within rule command has complete reads =
-    let found : is_inert reads.rule.meaning ≡ true = found_in_first (completes (is_extended_block within) (line_words text line)) (λ r. is_inert r.meaning) (inert_in within) (read_in within) rule reads.rule (all_inert within) has complete reads.first in
+    let found : is_inert reads.rule.meaning ≡ true = found_in_first (completes (is_extended_block within) (line_words text line)) (λ r. is_inert r.meaning) (inert_in within)
+    (read_in within) rule reads.rule (all_inert within) has complete reads.first in
     reads.gives ∙ inert_gives reads.rule.meaning reads.values found

@@ -12,7 +12,8 @@ use Rattle.ios_words.specs.Rows.{Piece, Word, Verdict, Place, Bracket, Flag, Ent
 use Rattle.ios_words.specs.Trials.{SaysTheSame}
 
 -- what is left out of a list is not found where it is not sought
-filter-step : {X : Type 0} (p q : X → Bool) (x : X) (xs : List X) → (p x ≡ true → q x ≡ true) → find p (filter q xs) ≡ find p xs → (b c : Bool) → q x ≡ b → p x ≡ c → find p (filter q (x ∷ xs)) ≡ find p (x ∷ xs)
+filter-step : {X : Type 0} (p q : X → Bool) (x : X) (xs : List X) → (p x ≡ true → q x ≡ true) → find p (filter q xs) ≡ find p xs → (b c : Bool) → q x ≡ b →
+    p x ≡ c → find p (filter q (x ∷ xs)) ≡ find p (x ∷ xs)
 filter-step p q x xs sought rest true c kept is = rw kept (ap (cond (p x) (Some x)) rest)
 filter-step p q x xs sought rest false true left is = absurd (true≢false (sym (sought is) ∙ left))
 filter-step p q x xs sought rest false false left is = rw (left, is) rest
@@ -94,21 +95,25 @@ completes-matches extended words rule e = go (matches words rule) refl
     go false is = absurd (true≢false (sym e ∙ rw is refl))
 
 -- rows that are left out without a match
-pub left_out : (words : List (List ℕ)) (keeps : Rule → Bool) (rules others : List Rule) → ((rule : Rule) → matches words rule ≡ true → keeps rule ≡ true) → rules ≡ filter keeps others → SaysTheSame words rules others
+pub left_out : (words : List (List ℕ)) (keeps : Rule → Bool) (rules others : List Rule) → ((rule : Rule) → matches words rule ≡ true → keeps rule ≡ true) →
+    rules ≡ filter keeps others → SaysTheSame words rules others
 left_out words keeps rules others sound is = record {
   matching = ap (find (matches words)) is ∙ find-filter (matches words) keeps sound others;
   completing = λ extended. ap (find (completes extended words)) is ∙ find-filter (completes extended words) keeps (λ rule complete. sound rule (completes-matches extended words rule complete)) others;
 }
 
-pub same_letter : (words : List (List ℕ)) (w : List ℕ) (more : List (List ℕ)) (l : ℕ) (rules others : List Rule) → words ≡ w ∷ more → is_ip w ≡ false → l ≡ letter words → rules ≡ filter (has_letter l) others → SaysTheSame words rules others
+pub same_letter : (words : List (List ℕ)) (w : List ℕ) (more : List (List ℕ)) (l : ℕ) (rules others : List Rule) → words ≡ w ∷ more → is_ip w ≡ false →
+    l ≡ letter words → rules ≡ filter (has_letter l) others → SaysTheSame words rules others
 same_letter words w more l rules others cut other at is =
     let P : List (List ℕ) → Type 0 = λ ws. rules ≡ filter (has_letter (letter ws)) others → SaysTheSame ws rules others in
     subst P (sym cut) (left_out (w ∷ more) (has_letter (letter (w ∷ more))) rules others (λ rule. keeps_letter w more other rule.pieces)) (is ∙ ap (λ k. filter (has_letter k) others) at)
 
-pub same_ip : (words : List (List ℕ)) (w : List ℕ) (more : List (List ℕ)) (l : ℕ) (rules others : List Rule) → words ≡ w ∷ more → is_ip w ≡ true → l ≡ letter more → rules ≡ filter (follows_ip l) others → SaysTheSame words rules others
+pub same_ip : (words : List (List ℕ)) (w : List ℕ) (more : List (List ℕ)) (l : ℕ) (rules others : List Rule) → words ≡ w ∷ more → is_ip w ≡ true →
+    l ≡ letter more → rules ≡ filter (follows_ip l) others → SaysTheSame words rules others
 same_ip words w more l rules others cut ip at is =
     let P : List (List ℕ) → Type 0 = λ ws. SaysTheSame ws rules others in
-    subst P (sym (cut ∙ ap (λ v. v ∷ more) (same_bytes w (codes "ip") ip))) (left_out (codes "ip" ∷ more) (follows_ip (letter more)) rules others (λ rule. keeps_ip more rule.pieces) (is ∙ ap (λ k. filter (follows_ip k) others) at))
+    subst P (sym (cut ∙ ap (λ v. v ∷ more) (same_bytes w (codes "ip") ip)))
+    (left_out (codes "ip" ∷ more) (follows_ip (letter more)) rules others (λ rule. keeps_ip more rule.pieces) (is ∙ ap (λ k. filter (follows_ip k) others) at))
 
 -- a line without words matches none of the rows outside blocks or of an interface
 pub no_words : (words : List (List ℕ)) (others : List Rule) → words ≡ [] → SaysTheSame [] [] others → SaysTheSame words [] others

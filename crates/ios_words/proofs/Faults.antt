@@ -6,7 +6,8 @@ use Rattle.ios_words.specs.declared.kinds.WordFault.{WordFault}
 use Rattle.ios_words.specs.declared.kinds.WordFault.TheVariants.{Unknown, BadWord, WildcardNotPrefix, Memory}
 use Rattle.ios_words.specs.declared.rows.Form.{Form}
 use Rattle.ios_words.specs.declared.rows.Form.TheVariants.{Host, Address, Wildcard, Order, Port, FirstPort, LastPort}
-use Rattle.ios_words.specs.Readings.{State, begins, begins_entry, after_word, next_word, place, passed, then_do, stands_alone, width, side, as_source, ports, step, read_parts, finish_words, finish, start, read}
+use Rattle.ios_words.specs.Readings.{State, begins, begins_entry, after_word, next_word, place, passed, then_do, stands_alone}
+use Rattle.ios_words.specs.Readings.{width, side, as_source, ports, step, read_parts, finish_words, finish, start, read}
 use Rattle.ios_words.specs.Rows.{Piece, Word, Verdict, Place, Bracket, Flag, EntryNumber, Protocol, Source, Destination, Ports, Anything, Rule}
 use Rattle.ios_words.specs.Services.{protocol, has_ports}
 use Rattle.ios_words.specs.Values.{Values}
@@ -47,10 +48,12 @@ width-only : (extended : Bool) (s : State) → OnlyWords (width extended s)
 width-only extended s = if-only (not extended && stands_alone s.words) _ _ tt (place-only Wildcard s)
 
 side-only : (extended : Bool) (s : State) → OnlyWords (side extended s)
-side-only extended s = if-only (begins (codes "any") s.words) _ _ tt (if-only (begins (codes "host") s.words) _ _ (place-only Host (passed s)) (then-only (width extended) (place Address s) (width-only extended) (place-only Address s)))
+side-only extended s = if-only (begins (codes "any") s.words) _ _ tt
+    (if-only (begins (codes "host") s.words) _ _ (place-only Host (passed s)) (then-only (width extended) (place Address s) (width-only extended) (place-only Address s)))
 
 ports-only : (s : State) → OnlyWords (ports s)
-ports-only s = if-only (begins (codes "eq") s.words) _ _ (place-only Port (passed s)) (if-only (begins (codes "range") s.words) _ _ (then-only (place LastPort) (place FirstPort (passed s)) (place-only LastPort) (place-only FirstPort (passed s))) tt)
+ports-only s = if-only (begins (codes "eq") s.words) _ _ (place-only Port (passed s))
+    (if-only (begins (codes "range") s.words) _ _ (then-only (place LastPort) (place FirstPort (passed s)) (place-only LastPort) (place-only FirstPort (passed s))) tt)
 
 step-only : (piece : Piece) (s : State) → OnlyWords (step piece s)
 step-only (Word word) s = next_word-only _ s.taken s.words

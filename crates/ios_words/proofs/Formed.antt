@@ -5,7 +5,10 @@ use Rattle.std.specs.List.{list_all}
 use Rattle.ios_words.specs.declared.kinds.BlockKind.{BlockKind}
 use Rattle.ios_words.specs.declared.kinds.BlockKind.TheVariants as blocks
 use Rattle.ios_words.specs.declared.rows.Meaning.{Meaning}
-use Rattle.ios_words.specs.declared.rows.Meaning.TheVariants.{Hostname, Interface, RouterOspf, RouterBgp, ExtendedList, StandardList, ListLine, PrefixLine, Address, NoAddress, Shutdown, NoShutdown, Bandwidth, Cost, Area, PointToPoint, Broadcast, GroupIn, GroupOut, Covers, Passive, NoPassive, PassiveByDefault, NoPassiveByDefault, Reference, RouterId, RemoteAs, NeighborDown, NoNeighborDown, NeighborList, Tells, Entry, Inert}
+use Rattle.ios_words.specs.declared.rows.Meaning.TheVariants.{Hostname, Interface, RouterOspf, RouterBgp, ExtendedList, StandardList, ListLine, PrefixLine, Address, NoAddress, Shutdown}
+use Rattle.ios_words.specs.declared.rows.Meaning.TheVariants.{NoShutdown, Bandwidth, Cost, Area, PointToPoint}
+use Rattle.ios_words.specs.declared.rows.Meaning.TheVariants.{Broadcast, GroupIn, GroupOut, Covers, Passive, NoPassive, PassiveByDefault, NoPassiveByDefault, Reference, RouterId, RemoteAs}
+use Rattle.ios_words.specs.declared.rows.Meaning.TheVariants.{NeighborDown, NoNeighborDown, NeighborList, Tells, Entry, Inert}
 use Rattle.ios_words.specs.Commands.{completes, is_extended_block, line_words}
 use Rattle.ios_words.specs.Forms.{IsFrom, IsOrder, AreLengths, IsInForm, CommandsAreInForm, AddressesFit, AllAddressesFit}
 use Rattle.ios_words.specs.Language.{rows}
@@ -135,7 +138,8 @@ found_passes p q (x ∷ xs) y all e = found_step p q x xs y (and_parts _ _ all).
 pub in_form : CommandsAreInForm
 in_form text line within command reads =
     let sound : rule_fits reads.rule ≡ true = found_passes (completes (is_extended_block within) (line_words text line)) rule_fits (rows within) reads.rule (all_fit within) reads.first in
-    subst IsInForm (sym reads.gives) (given reads.rule.meaning (learn_parts reads.rule.pieces nothing) reads.values (read-holds (is_extended_block within) (line_words text line) reads.rule reads.values reads.complete) sound)
+    subst IsInForm (sym reads.gives)
+    (given reads.rule.meaning (learn_parts reads.rule.pieces nothing) reads.values (read-holds (is_extended_block within) (line_words text line) reads.rule reads.values reads.complete) sound)
 
 addressed : (meaning : Meaning) (k : Known) (v : Values) → Holds k v → AddressesFit (give meaning v)
 addressed Address k v h = h.address
@@ -150,4 +154,5 @@ addressed _ k v h = tt
 
 pub addresses_fit : AllAddressesFit
 addresses_fit text line within command reads =
-    subst AddressesFit (sym reads.gives) (addressed reads.rule.meaning (learn_parts reads.rule.pieces nothing) reads.values (read-holds (is_extended_block within) (line_words text line) reads.rule reads.values reads.complete))
+    subst AddressesFit (sym reads.gives) (addressed reads.rule.meaning (learn_parts reads.rule.pieces nothing) reads.values
+    (read-holds (is_extended_block within) (line_words text line) reads.rule reads.values reads.complete))

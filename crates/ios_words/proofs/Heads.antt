@@ -42,7 +42,8 @@ heads-give _ values = refl
 abbrev heads_no : Rule → Bool
 heads_no r = not (heads r.meaning)
 
-pub inner-none : {A : Type 0} → (extended : Bool) (ws : List (List ℕ)) (rules : List Rule) (command : Command) → ReadBy extended ws rules command → list_all heads_no rules ≡ true → heads_block command ≡ true → A
+pub inner-none : {A : Type 0} → (extended : Bool) (ws : List (List ℕ)) (rules : List Rule) (command : Command) → ReadBy extended ws rules command →
+    list_all heads_no rules ≡ true → heads_block command ≡ true → A
 inner-none extended ws rules command reads all heads_it =
     let passes : not (heads reads.rule.meaning) ≡ true = find-passes _ heads_no rules reads.rule reads.first all in
     let is : heads reads.rule.meaning ≡ true = sym (heads-give reads.rule.meaning reads.values) ∙ ap heads_block (sym reads.gives) ∙ heads_it in

@@ -1,5 +1,6 @@
 -- What is known of the values that a row's words give.
-use Rattle.std.proofs.Common.{◌≡◌, ℕ, ◌+◌, ◌-◌, ◌^◌, ◌≤◌, ◌⊎◌, inl, inr, max, Bool, true, false, cond, ◌&&◌, ◌||◌, ◌==◌, List, [], ◌∷◌, Option, Some, None, Result, Ok, Err, refl, sym, ap, subst, true≢false, IsTrue, not, codes, nat_le, ◌<◌, arith}
+use Rattle.std.proofs.Common.{◌≡◌, ℕ, ◌+◌, ◌-◌, ◌^◌, ◌≤◌, ◌⊎◌, inl, inr, max, Bool, true, false, cond, ◌&&◌, ◌||◌, ◌==◌, List}
+use Rattle.std.proofs.Common.{[], ◌∷◌, Option, Some, None, Result, Ok, Err, refl, sym, ap, subst, true≢false, IsTrue, not, codes, nat_le, ◌<◌, arith}
 use Rattle.std.proofs.lemmas.Bool.{and_parts, leb-true}
 use Rattle.std.proofs.lemmas.List.Quantifiers.{position-Some}
 use Rattle.std.specs.Int.{w32, from_be_bytes}
@@ -20,7 +21,8 @@ use Rattle.arc_base.specs.NameForms.{is_name}
 use Rattle.ios_words.specs.Prefixes.{holding, whole}
 use Rattle.ios_words.specs.Numbers.{is_from, ranged, number_in, length_from, mask_of_address, mask_length, mask_ones, masks, wildcard_length, area_of, is_standard, is_extended, list_kind}
 use Rattle.std.specs.Option.{option_or}
-use Rattle.ios_words.specs.Readings.{State, begins, begins_entry, after_word, next_word, place, this_word, permits, verdict, passed, then_do, stands_alone, alone, any, width, side, as_source, ports, step, read_parts, finish_words, finish, start, read}
+use Rattle.ios_words.specs.Readings.{State, begins, begins_entry, after_word, next_word, place, this_word, permits, verdict, passed, then_do, stands_alone}
+use Rattle.ios_words.specs.Readings.{alone, any, width, side, as_source, ports, step, read_parts, finish_words, finish, start, read}
 use Rattle.ios_words.specs.Rows.{Piece, Word, Verdict, Place, Bracket, Flag, EntryNumber, Protocol, Source, Destination, Ports, Anything, Rule}
 use Rattle.ios_words.specs.ServiceRanges.{services_of}
 use Rattle.ios_words.specs.Services.{protocol, port, has_ports}
@@ -222,7 +224,8 @@ unfolding holding
 own-length addr len few = record { least = omega arith; ordered = omega arith; most = few }
 
 -- what holds of values holds of those that agree in the other fields
-kept : (k : Known) (v u : Values) → Holds k v → u.text ≡ v.text → u.number ≡ v.number → u.length ≡ v.length → u.order ≡ v.order → (k.routed ≡ true → AreLengths u.to u.low u.high) → u.address < 2 ^ 32 → u.area < 2 ^ 32 → Holds k u
+kept : (k : Known) (v u : Values) → Holds k v → u.text ≡ v.text → u.number ≡ v.number → u.length ≡ v.length → u.order ≡ v.order →
+    (k.routed ≡ true → AreLengths u.to u.low u.high) → u.address < 2 ^ 32 → u.area < 2 ^ 32 → Holds k u
 kept k v u h t n l o routed address area = record {
   name = λ is. subst (λ x. IsTrue (is_name x)) (sym t) (h.name is);
   face = λ is. subst (λ x. IsTrue (is_face_name x)) (sym t) (h.face is);
@@ -246,7 +249,19 @@ less_routed : (k : Known) (v : Values) → Holds k v → Holds (unrouted k) v
 less_routed k v h = record { name = h.name; face = h.face; listed = h.listed; number = h.number; length = h.length; routed = λ no'. never no'; order = h.order; address = h.address; area = h.area }
 
 ordered_only : (k : Known) (v : Values) → IsOrder k.order v.order → v.address < 2 ^ 32 → v.area < 2 ^ 32 → Holds (record nothing { order = k.order }) v
-ordered_only k v order address area = record { name = λ no'. never no'; face = λ no'. never no'; listed = λ no'. never no'; number = λ no'. never no'; length = λ no'. never no'; routed = λ no'. never no'; order = order; address = address; area = area }
+ordered_only k v order address area =
+    record {
+      name = λ no'. never no';
+      face = λ no'. never no';
+      listed = λ no'. never no';
+      number = λ no'. never no';
+      length = λ no'. never no';
+      routed = λ no'. never no';
+      order =
+          order;
+      address = address;
+      area = area;
+    }
 
 wider : (o : Option ℕ) (m n : ℕ) → m ≤ n → IsOrder m o → IsOrder n o
 wider None m n few is = tt
@@ -279,38 +294,98 @@ form-holds FaceName k v u w h e = with-value (Holds (learn_form FaceName k)) (λ
       area = h.area;
     }) e
 form-holds (Number low high) k v u w h e = with-value (Holds (learn_form (Number low high) k)) (λ n. record v { number = n }) (number_in low high w) u
-    (λ n is. record { name = h.name; face = h.face; listed = h.listed; number = λ _. ranged-some low high (number_of w) n is; length = h.length; routed = h.routed; order = h.order; address = h.address; area = h.area }) e
+    (λ n is. record {
+      name = h.name;
+      face = h.face;
+      listed = h.listed;
+      number = λ _. ranged-some low high (number_of w) n is;
+      length = h.length;
+      routed = h.routed;
+      order =
+          h.order;
+      address = h.address;
+      area = h.area;
+    }) e
 form-holds Address k v u w h e = with-value (Holds k) (λ a. record v { address = a }) (address_of w) u (λ a is. kept k v _ h refl refl refl refl h.routed (address-small w a is) h.area) e
 form-holds Host k v u w h e = with-value (Holds (unrouted k)) (λ a. record v { address = a; to = holding a 32 }) (address_of w) u
     (λ a is. kept (unrouted k) v _ (less_routed k v h) refl refl refl refl (λ no'. never no') (address-small w a is) h.area) e
 form-holds Network k v u w h e = with-value (Holds (unrouted k)) (λ p. record v { to = p }) (class_prefix (address_of w)) u
     (λ a is. kept (unrouted k) v _ (less_routed k v h) refl refl refl refl (λ no'. never no') h.address h.area) e
 form-holds (Mask least) k v u w h e = with-result (Holds (learn_form (Mask least) k)) (λ l. record v { length = l; to = holding v.address l }) (mask_length least w) u
-    (λ l is. record { name = h.name; face = h.face; listed = h.listed; number = h.number; length = λ _. mask-some least l (address_of w) is; routed = λ no'. never no'; order = h.order; address = h.address; area = h.area }) e
+    (λ l is. record {
+      name = h.name;
+      face = h.face;
+      listed = h.listed;
+      number = h.number;
+      length = λ _. mask-some least l (address_of w) is;
+      routed = λ no'. never no';
+      order =
+          h.order;
+      address = h.address;
+      area = h.area;
+    }) e
 form-holds Wildcard k v u w h e = with-result (Holds (loose k)) (λ l. record v { length = l; to = holding v.address l }) (wildcard_length w) u
     (λ l is. record { name = h.name; face = h.face; listed = h.listed; number = h.number; length = λ no'. never no'; routed = λ no'. never no'; order = h.order; address = h.address; area = h.area }) e
-form-holds Area k v u w h e = with-value (Holds k) (λ a. record v { area = a }) (area_of w) u (λ a is. kept k v _ h refl refl refl refl h.routed h.address (area-small w a (number_in 0 (2 ^ 32 - 1) w) refl is)) e
+form-holds Area k v u w h e = with-value (Holds k) (λ a. record v { area = a }) (area_of w) u
+    (λ a is. kept k v _ h refl refl refl refl h.routed h.address (area-small w a (number_in 0 (2 ^ 32 - 1) w) refl is)) e
 form-holds ListNumber k v u w h e = with-value (Holds (learn_form ListNumber k)) (λ extended. record v { text = w; extended = extended }) (list_kind (number_of w)) u
-    (λ a is. record { name = λ no'. never no'; face = λ no'. never no'; listed = λ _. kind-some w a (number_of w) refl is; number = h.number; length = h.length; routed = h.routed; order = h.order; address = h.address; area = h.area }) e
+    (λ a is. record {
+      name = λ no'. never no';
+      face = λ no'. never no';
+      listed = λ _. kind-some w a (number_of w) refl is;
+      number = h.number;
+      length = h.length;
+      routed =
+          h.routed;
+      order = h.order;
+      address = h.address;
+      area = h.area;
+    }) e
 form-holds (Order high) k v u w h e = with-value (Holds (learn_form (Order high) k)) (λ n. record v { order = Some n }) (number_in 1 high w) u
-    (λ n is. record { name = h.name; face = h.face; listed = h.listed; number = h.number; length = h.length; routed = h.routed; order = ranged-some 1 high (number_of w) n is; address = h.address; area = h.area }) e
+    (λ n is. record {
+      name = h.name;
+      face = h.face;
+      listed = h.listed;
+      number = h.number;
+      length = h.length;
+      routed = h.routed;
+      order = ranged-some 1 high (number_of w) n is;
+      address =
+          h.address;
+      area = h.area;
+    }) e
 form-holds Route k v u w h e = with-value (Holds (learn_form Route k)) (λ r. record v { to = holding r.0 r.1; low = r.1; high = r.1 }) (route_of w) u
-    (λ r is. record { name = h.name; face = h.face; listed = h.listed; number = h.number; length = h.length; routed = λ _. own-length r.0 r.1 (parts-some (cut_at 47 w) r is); order = h.order; address = h.address; area = h.area }) e
+    (λ r is. record {
+      name = h.name;
+      face = h.face;
+      listed = h.listed;
+      number = h.number;
+      length = h.length;
+      routed = λ _. own-length r.0 r.1 (parts-some (cut_at 47 w) r is);
+      order =
+          h.order;
+      address = h.address;
+      area = h.area;
+    }) e
 form-holds AtLeast k v u w h e = with-value (Holds k) (λ n. record v { low = n; high = 32 }) (number_in v.to.len 32 w) u
     (λ n is. let range = ranged-some v.to.len 32 (number_of w) n is in kept k v _ h refl refl refl refl (λ _. record { least = range.0; ordered = range.1; most = omega arith }) h.address h.area) e
 form-holds AtMost k v u w h e = with-value (Holds k) (λ n. record v { high = n }) (number_in v.low 32 w) u
-    (λ n is. let range = ranged-some v.low 32 (number_of w) n is in kept k v _ h refl refl refl refl (λ was. record { least = (h.routed was).least; ordered = range.0; most = range.1 }) h.address h.area) e
+    (λ n is. let range = ranged-some v.low 32 (number_of w) n is in kept k v _ h refl refl refl refl
+    (λ was. record { least = (h.routed was).least; ordered = range.0; most = range.1 }) h.address h.area) e
 form-holds forms.Protocol k v u w h e = with-value (Holds k) (λ s. record v { services = s }) (services_of w) u (λ s is. kept k v _ h refl refl refl refl h.routed h.address h.area) e
 form-holds Port k v u w h e = with-value (Holds k) (λ n. with_ports v n n) (port_in v w) u (λ n is. kept k v _ h refl refl refl refl h.routed h.address h.area) e
 form-holds FirstPort k v u w h e = with-value (Holds k) (λ n. with_ports v n 65535) (port_in v w) u (λ n is. kept k v _ h refl refl refl refl h.routed h.address h.area) e
-form-holds LastPort k v u w h e = with-value (Holds k) (λ n. with_ports v (port v.services.low) n) (ranged (port v.services.low) 65535 (port_in v w)) u (λ n is. kept k v _ h refl refl refl refl h.routed h.address h.area) e
+form-holds LastPort k v u w h e = with-value (Holds k) (λ n. with_ports v (port v.services.low) n) (ranged (port v.services.low) 65535 (port_in v w)) u
+    (λ n is. kept k v _ h refl refl refl refl h.routed h.address h.area) e
 
 -- what holds after the next word
 after-holds : (P : Values → Type 0) (place : ℕ) (words : List (List ℕ)) (r : Result Values Flaw) (s : State) → ((v : Values) → r ≡ Ok v → P v) → after_word place words r ≡ Ok s → P s.values
-after-holds P place words (Ok v) s h e = let P' : State → Type 0 = λ x. P x.values in subst P' (one_state (record { taken = place; words = words; values = v }) s (after_word place words (Ok v)) refl e) (h v refl)
+after-holds P place words (Ok v) s h e = let P' : State → Type 0 =
+    λ x. P x.values in subst P' (one_state (record { taken = place; words = words; values = v }) s (after_word place words (Ok v)) refl e) (h v refl)
 after-holds P place words (Err flaw) s h e = absurd (no_state _ s (after_word place words (Err flaw)) refl e)
 
-next-holds : (P : Values → Type 0) (give : List ℕ → Result Values Flaw) (taken : ℕ) (words : List (List ℕ)) (s : State) → ((w : List ℕ) (v : Values) → give w ≡ Ok v → P v) → next_word give taken words ≡ Ok s → P s.values
+next-holds : (P : Values → Type 0) (give : List ℕ → Result Values Flaw) (taken : ℕ) (words : List (List ℕ)) (s : State) →
+    ((w : List ℕ) (v : Values) → give w ≡ Ok v → P v) → next_word give taken words ≡ Ok s → P s.values
 next-holds P give taken [] s h e = absurd (no_state _ s (next_word give taken []) refl e)
 next-holds P give taken (w ∷ words) s h e = after-holds P (taken + 1) words (give w) s (h w) e
 
@@ -339,7 +414,8 @@ this-holds word k s t h e = next-holds (Holds k) (λ w. cond (bytes_eq w word) (
 verdict-holds : (k : Known) (s t : State) → Holds k s.values → verdict s ≡ Ok t → Holds k t.values
 verdict-holds k s t h e = next-holds (Holds k) (permits s.values) s.taken s.words t
     (λ w v. if-value (Holds k) (bytes_eq w (codes "permit")) _ _ v (ok-value (Holds k) (record s.values { permit = true }) v _ refl (kept k s.values _ h refl refl refl refl h.routed h.address h.area))
-    (if-value (Holds k) (bytes_eq w (codes "deny")) _ _ v (ok-value (Holds k) (record s.values { permit = false }) v _ refl (kept k s.values _ h refl refl refl refl h.routed h.address h.area)) (λ e'. absurd (no_value Amiss v (Err Amiss) refl e')))) e
+    (if-value (Holds k) (bytes_eq w (codes "deny")) _ _ v
+    (ok-value (Holds k) (record s.values { permit = false }) v _ refl (kept k s.values _ h refl refl refl refl h.routed h.address h.area)) (λ e'. absurd (no_value Amiss v (Err Amiss) refl e')))) e
 
 width-holds : (extended : Bool) (k : Known) (s t : State) → Holds k s.values → width extended s ≡ Ok t → Holds (loose k) t.values
 width-holds extended k s t h e = if-state (λ x. Holds (loose k) x.values) (not extended && stands_alone s.words) _ _ t
@@ -359,13 +435,37 @@ side-holds extended k s t h e =
 
 -- whether the word stands or not
 either-there : (form : Form) (k : Known) (v : Values) → Holds (learn_form form k) v → Holds (learn_either form k) v
-either-there (Order high) k v h = record { name = h.name; face = h.face; listed = h.listed; number = h.number; length = h.length; routed = h.routed; order = wider v.order high (max k.order high) (omega arith) h.order; address = h.address; area = h.area }
+either-there (Order high) k v h =
+    record {
+      name = h.name;
+      face = h.face;
+      listed = h.listed;
+      number = h.number;
+      length = h.length;
+      routed = h.routed;
+      order =
+          wider v.order high (max k.order high) (omega arith) h.order;
+      address = h.address;
+      area = h.area;
+    }
 either-there AtLeast k v h = h
 either-there AtMost k v h = h
 either-there _ k v h = ordered_only k v h.order h.address h.area
 
 either-not : (form : Form) (k : Known) (v : Values) → Holds k v → Holds (learn_either form k) v
-either-not (Order high) k v h = record { name = h.name; face = h.face; listed = h.listed; number = h.number; length = h.length; routed = h.routed; order = wider v.order k.order (max k.order high) (omega arith) h.order; address = h.address; area = h.area }
+either-not (Order high) k v h =
+    record {
+      name = h.name;
+      face = h.face;
+      listed = h.listed;
+      number = h.number;
+      length = h.length;
+      routed = h.routed;
+      order =
+          wider v.order k.order (max k.order high) (omega arith) h.order;
+      address = h.address;
+      area = h.area;
+    }
 either-not AtLeast k v h = h
 either-not AtMost k v h = h
 either-not _ k v h = ordered_only k v h.order h.address h.area
@@ -385,7 +485,8 @@ step-holds (Place form) k s t h e = place-holds form k s t h e
 step-holds (Bracket word form) k s t h e = if-state (λ x. Holds (learn_either form k) x.values) (begins word s.words) _ _ t
     (λ e'. either-there form k t.values (place-holds form k (passed s) t h e'))
     (ok-state (λ x. Holds (learn_either form k) x.values) s t _ refl (either-not form k s.values h)) e
-step-holds (Flag word) k s t h e = if-state (λ x. Holds k x.values) (begins word s.words) _ _ t (ok-state (λ x. Holds k x.values) (passed s) t _ refl h) (ok-state (λ x. Holds k x.values) s t _ refl h) e
+step-holds (Flag word) k s t h e = if-state (λ x. Holds k x.values) (begins word s.words) _ _ t (ok-state (λ x. Holds k x.values) (passed s) t _ refl h)
+    (ok-state (λ x. Holds k x.values) s t _ refl h) e
 step-holds EntryNumber k s t h e = if-state (λ x. Holds (learn_either (Order 2147483647) k) x.values) (begins_entry s.words) _ _ t
     (ok-state (λ x. Holds (learn_either (Order 2147483647) k) x.values) s t _ refl (either-not (Order 2147483647) k s.values h))
     (λ e'. either-there (Order 2147483647) k t.values (place-holds (Order 2147483647) k s t h e')) e
@@ -393,13 +494,15 @@ step-holds Protocol k s t h e = if-state (λ x. Holds k x.values) s.values.exten
 step-holds Source k s t h e = then-holds (λ x. Holds (loose k) x.values) as_source (side s.values.extended s) t
     (λ m at. ok-state (λ x. Holds (loose k) x.values) (record m { values = record m.values { from = m.values.to; to = whole } }) t _ refl
     (let held = side-holds s.values.extended k s m h at in kept (loose k) m.values _ held refl refl refl refl (λ no'. never no') held.address held.area)) e
-step-holds Destination k s t h e = if-state (λ x. Holds (loose k) x.values) s.values.extended _ _ t (side-holds true k s t h) (ok-state (λ x. Holds (loose k) x.values) s t _ refl (weaker k s.values h)) e
+step-holds Destination k s t h e = if-state (λ x. Holds (loose k) x.values) s.values.extended _ _ t (side-holds true k s t h)
+    (ok-state (λ x. Holds (loose k) x.values) s t _ refl (weaker k s.values h)) e
 step-holds Ports k s t h e = if-state (λ x. Holds k x.values) (has_ports (protocol s.values.services.low)) _ _ t (ports-hold k s t h) (ok-state (λ x. Holds k x.values) s t _ refl h) e
 step-holds Anything k s t h e = ok-state (λ x. Holds k x.values) (record s { words = [] }) t _ refl h e
 
 parts-hold : (pieces : List Piece) (k : Known) (s t : State) → Holds k s.values → read_parts pieces s ≡ Ok t → Holds (learn_parts pieces k) t.values
 parts-hold [] k s t h e = ok-state (λ x. Holds k x.values) s t _ refl h e
-parts-hold (piece ∷ pieces) k s t h e = then-holds (λ x. Holds (learn_parts pieces (learn piece k)) x.values) (read_parts pieces) (step piece s) t (λ m at. parts-hold pieces (learn piece k) m t (step-holds piece k s m h at)) e
+parts-hold (piece ∷ pieces) k s t h e = then-holds (λ x. Holds (learn_parts pieces (learn piece k)) x.values) (read_parts pieces) (step piece s) t
+    (λ m at. parts-hold pieces (learn piece k) m t (step-holds piece k s m h at)) e
 
 one_whole : (a b : Values) (r : Result Values WordFault) → r ≡ Ok a → r ≡ Ok b → a ≡ b
 one_whole a b r one two = cc

@@ -127,7 +127,8 @@ heads-no-list (w ∷ v ∷ r) command opens reads is =
         second true e = absurd (true≢false e)
         second false e = refl
 
-        by : (b : Bool) → bytes_eq w (codes "ip") ≡ b → option_map_or (match_words (Word (codes "prefix-list") ∷ Place Name ∷ Bracket (codes "seq") (Order 4294967294) ∷ route_parts)) (cond b (Some (v ∷ r)) None) false ≡ false
+        by : (b : Bool) → bytes_eq w (codes "ip") ≡ b →
+            option_map_or (match_words (Word (codes "prefix-list") ∷ Place Name ∷ Bracket (codes "seq") (Order 4294967294) ∷ route_parts)) (cond b (Some (v ∷ r)) None) false ≡ false
         by false e = refl
         by true e =
             let same : bytes_eq (codes "ip") w ≡ true = (bytes_eq-Decides (codes "ip") w).1 (sym ((bytes_eq-Decides w (codes "ip")).0 e)) in

@@ -47,7 +47,8 @@ no-ports taken v = by (has_ports (protocol v.services.low))
 record StandardRead (permit : Bool) (from : Prefix) (taken : ℕ) (v : Values) : Type 0 where
   addr : ℕ
   len : ℕ
-  read : finish (read_parts (Verdict ∷ Source ∷ Flag (codes "log") ∷ []) (at taken (standard_words permit from) (record v { extended = false }))) ≡ Ok (record v { extended = false; permit = permit; address = addr; length = len; from = from; to = whole })
+  read : finish (read_parts (Verdict ∷ Source ∷ Flag (codes "log") ∷ []) (at taken (standard_words permit from) (record v { extended = false }))) ≡ Ok
+      (record v { extended = false; permit = permit; address = addr; length = len; from = from; to = whole })
 
 source-read : (permit : Bool) (from : Prefix) (taken : ℕ) (v : Values) → StandardRead permit from taken v
 source-read permit from taken v =
@@ -58,7 +59,8 @@ source-read permit from taken v =
     record {
       addr = first.addr;
       len = first.len;
-      read = ap finish (chain Verdict (Source ∷ Flag (codes "log") ∷ []) (at taken (standard_words permit from) (record v { extended = false })) _ (verdict-step permit taken (side_words from) (record v { extended = false }))
+      read = ap finish (chain Verdict (Source ∷ Flag (codes "log") ∷ []) (at taken (standard_words permit from) (record v { extended = false })) _
+          (verdict-step permit taken (side_words from) (record v { extended = false }))
           ∙ chain Source (Flag (codes "log") ∷ []) (at (taken + 1) (side_words from) w) _ source);
     }
 
@@ -70,7 +72,8 @@ abbrev sequence_number : Rule
 sequence_number = inert (codes "ip prefix-list sequence-number")
 
 -- an entry of a standard list's block
-pub standard-read : (order : Option ℕ) (permit : Bool) (from : Prefix) → IsOrder 2147483647 order → ReadBy false (order_words order ++ standard_words permit from) (rows blocks.Standard) (Entry order (standard_text permit from))
+pub standard-read : (order : Option ℕ) (permit : Bool) (from : Prefix) → IsOrder 2147483647 order →
+    ReadBy false (order_words order ++ standard_words permit from) (rows blocks.Standard) (Entry order (standard_text permit from))
 standard-read None true from ranged =
     let said = source-read true from 0 (no_values false) in
     reads-at false (standard_words true from) (rows blocks.Standard) 1 _ _ _ (Entry None (standard_text true from)) refl refl refl said.read refl
@@ -87,7 +90,8 @@ standard-read (Some n) permit from ranged =
     if-no (begins_entry words) (Ok (at 0 words (no_values false))) _ _ (number-begins n tail small) (order-step 2147483647 0 n tail (no_values false) ranged.0 ranged.1 small) in
     let skip : after EntryNumber words ≡ Some tail = ap Some (cond-false (begins_entry words) words tail (number-begins n tail small)) in
     reads-at false words (rows blocks.Standard) 1 _ _ _ (Entry (Some n) (standard_text permit from)) refl
-    (none-split (completes false words) [] remark [] refl (fails-by false words remark (ap (λ o. option_map_or (match_words (Word (codes "remark") ∷ Anything ∷ [])) o false) skip ∙ no-remark permit (side_words from))) refl)
+    (none-split (completes false words) [] remark [] refl
+    (fails-by false words remark (ap (λ o. option_map_or (match_words (Word (codes "remark") ∷ Anything ∷ [])) o false) skip ∙ no-remark permit (side_words from))) refl)
     (ap (λ o. option_map_or (match_words (Verdict ∷ Source ∷ Flag (codes "log") ∷ [])) o false) skip ∙ verdict-there permit (side_words from))
     (ap finish (chain EntryNumber (Verdict ∷ Source ∷ Flag (codes "log") ∷ []) (at 0 words (no_values false)) (at 1 tail v) number) ∙ said.read) refl
   where
@@ -100,7 +104,8 @@ abbrev list_parts : List Piece
 list_parts = Verdict ∷ Protocol ∷ Source ∷ Destination ∷ Ports ∷ Flag (codes "log") ∷ []
 
 line-parts : (name : List ℕ) (permit : Bool) (from : Prefix) → list_kind (number_of name) ≡ Some false →
-    (addr : ℕ) × (len : ℕ) × (finish (read_parts (parts_after blocks.Top 80 1) (at 1 (name ∷ standard_words permit from) (no_values false))) ≡ Ok (record (no_values false) { text = name; permit = permit; address = addr; length = len; from = from; to = whole }))
+    (addr : ℕ) × (len : ℕ) × (finish (read_parts (parts_after blocks.Top 80 1) (at 1 (name ∷ standard_words permit from) (no_values false))) ≡ Ok
+    (record (no_values false) { text = name; permit = permit; address = addr; length = len; from = from; to = whole }))
 line-parts name permit from is =
     let v = record (no_values false) { text = name } in
     let w = record v { permit = permit } in
@@ -111,7 +116,8 @@ line-parts name permit from is =
       first.addr,
       first.len,
       ap finish (go list_parts (kind-step 1 name false (standard_words permit from) (no_values false) is)
-          ∙ chain Verdict (Protocol ∷ Source ∷ Destination ∷ Ports ∷ Flag (codes "log") ∷ []) (at 2 (standard_words permit from) v) (at 3 (side_words from) w) (verdict-step permit 2 (side_words from) v)
+          ∙ chain Verdict (Protocol ∷ Source ∷ Destination ∷ Ports ∷ Flag (codes "log") ∷ []) (at 2 (standard_words permit from) v) (at 3 (side_words from) w)
+          (verdict-step permit 2 (side_words from) v)
           ∙ chain Source (Destination ∷ Ports ∷ Flag (codes "log") ∷ []) (at 3 (side_words from) w) last source
           ∙ chain Ports (Flag (codes "log") ∷ []) last last (no-ports first.after last.values)),
     )
@@ -140,7 +146,8 @@ abbrev most_parts : List Piece
 most_parts = parts_after blocks.Top 81 7
 
 -- the greatest length is the one that is meant without it, or it is written
-most-read : (meant high taken : ℕ) (v : Values) → v.low ≤ high → high ≤ 32 → finish (read_parts most_parts (at taken (most_words meant high) (record v { high = meant }))) ≡ Ok (record v { high = high })
+most-read : (meant high taken : ℕ) (v : Values) → v.low ≤ high → high ≤ 32 →
+    finish (read_parts most_parts (at taken (most_words meant high) (record v { high = meant }))) ≡ Ok (record v { high = high })
 most-read meant high taken v ordered most = by (high == meant) refl
   where
     by : (b : Bool) → (high == meant) ≡ b → finish (read_parts most_parts (at taken (cond b [] (codes "le" ∷ decimal high ∷ [])) (record v { high = meant }))) ≡ Ok (record v { high = high })
@@ -159,7 +166,9 @@ lengths-read : (p : Prefix) (low high taken : ℕ) (v : Values) → AreLengths p
 lengths-read p low high taken v lengths = by (low == p.len) refl
   where
     by : (b : Bool) → (low == p.len) ≡ b →
-        finish (read_parts length_parts (at taken (cond b (most_words p.len high) (codes "ge" ∷ decimal low ∷ most_words 32 high)) (record v { to = p; low = p.len; high = p.len }))) ≡ Ok (record v { to = p; low = low; high = high })
+        finish (read_parts length_parts
+        (at taken (cond b (most_words p.len high) (codes "ge" ∷ decimal low ∷ most_words 32 high)) (record v { to = p; low = p.len; high = p.len }))) ≡ Ok
+        (record v { to = p; low = low; high = high })
     by true e =
         let same : low ≡ p.len = eqb-true low p.len e in
         let ordered = lengths.ordered in
@@ -184,7 +193,8 @@ route-read e taken v lengths =
 lengths-match : (len low high : ℕ) (word : List ℕ) → match_words (parts_after blocks.Top 81 5) (word ∷ length_words len low high) ≡ true
 lengths-match len low high word = by (low == len) (high == len) (high == 32)
   where
-    by : (a b c : Bool) → match_words (parts_after blocks.Top 81 5) (word ∷ cond a (cond b [] (codes "le" ∷ decimal high ∷ [])) (codes "ge" ∷ decimal low ∷ cond c [] (codes "le" ∷ decimal high ∷ []))) ≡ true
+    by : (a b c : Bool) →
+        match_words (parts_after blocks.Top 81 5) (word ∷ cond a (cond b [] (codes "le" ∷ decimal high ∷ [])) (codes "ge" ∷ decimal low ∷ cond c [] (codes "le" ∷ decimal high ∷ []))) ≡ true
     by true true c = refl
     by true false c = refl
     by false b true = refl
@@ -194,7 +204,8 @@ abbrev prefix_row : List Piece
 prefix_row = parts_after blocks.Top 81 2
 
 -- no number stands before permit or deny
-no-seq : (permit : Bool) (taken : ℕ) (rest : List (List ℕ)) (v : Values) → read_parts (parts_after blocks.Top 81 3) (at taken (verdict_word permit ∷ rest) v) ≡ read_parts route_parts (at taken (verdict_word permit ∷ rest) v)
+no-seq : (permit : Bool) (taken : ℕ) (rest : List (List ℕ)) (v : Values) →
+    read_parts (parts_after blocks.Top 81 3) (at taken (verdict_word permit ∷ rest) v) ≡ read_parts route_parts (at taken (verdict_word permit ∷ rest) v)
 no-seq true taken rest v = refl
 no-seq false taken rest v = refl
 
@@ -202,16 +213,20 @@ matches-alone : (name : List ℕ) (permit : Bool) (rest : List (List ℕ)) → m
 matches-alone name true rest = refl
 matches-alone name false rest = refl
 
-matches-after : (name number : List ℕ) (permit : Bool) (rest : List (List ℕ)) → match_words prefix_row (name ∷ codes "seq" ∷ number ∷ verdict_word permit ∷ rest) ≡ match_words (parts_after blocks.Top 81 5) rest
+matches-after : (name number : List ℕ) (permit : Bool) (rest : List (List ℕ)) →
+    match_words prefix_row (name ∷ codes "seq" ∷ number ∷ verdict_word permit ∷ rest) ≡ match_words (parts_after blocks.Top 81 5) rest
 matches-after name number true rest = refl
 matches-after name number false rest = refl
 
 -- the rows before that of prefix lists do not complete
-none-before : (words : List (List ℕ)) → find (completes false words) (take 61 (rows blocks.Top)) ≡ None → matches words sequence_number ≡ false → find (completes false words) (take 19 (drop 62 (rows blocks.Top))) ≡ None →
+none-before : (words : List (List ℕ)) → find (completes false words) (take 61 (rows blocks.Top)) ≡ None → matches words sequence_number ≡ false →
+    find (completes false words) (take 19 (drop 62 (rows blocks.Top))) ≡ None →
     find (completes false words) (take 81 (rows blocks.Top)) ≡ None
-none-before words before other rest = none-split (completes false words) (take 61 (rows blocks.Top)) sequence_number (take 19 (drop 62 (rows blocks.Top))) before (fails-by false words sequence_number other) rest
+none-before words before other rest = none-split (completes false words) (take 61 (rows blocks.Top)) sequence_number (take 19 (drop 62 (rows blocks.Top))) before
+    (fails-by false words sequence_number other) rest
 
-pub prefix-line-read : (name : List ℕ) (order : Option ℕ) (e : RouteText) → is_name name ≡ true → bytes_eq name (codes "sequence-number") ≡ false → IsOrder 4294967294 order → AreLengths e.prefix e.low e.high →
+pub prefix-line-read : (name : List ℕ) (order : Option ℕ) (e : RouteText) → is_name name ≡ true → bytes_eq name (codes "sequence-number") ≡ false →
+    IsOrder 4294967294 order → AreLengths e.prefix e.low e.high →
     ReadBy false (codes "ip" ∷ codes "prefix-list" ∷ name ∷ sequence_words order ++ route_words e) (rows blocks.Top) (PrefixLine name order e)
 prefix-line-read name None e is other ranged lengths =
     let tail = route_words e in

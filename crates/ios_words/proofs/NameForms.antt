@@ -21,7 +21,8 @@ name_form name e =
     record { some = leb-true _ _ inner.0; few = leb-true _ _ inner.1; bytes = all-each is_name_byte name outer.1 }
 
 -- some element passes
-any-step : (p : List ℕ → Bool) (x : List ℕ) (xs : List (List ℕ)) → list_any p (x ∷ xs) ≡ true → (list_any p xs ≡ true → (y : List ℕ) × Contains xs y × (p y ≡ true)) → (b : Bool) → p x ≡ b → (y : List ℕ) × Contains (x ∷ xs) y × (p y ≡ true)
+any-step : (p : List ℕ → Bool) (x : List ℕ) (xs : List (List ℕ)) → list_any p (x ∷ xs) ≡ true →
+    (list_any p xs ≡ true → (y : List ℕ) × Contains xs y × (p y ≡ true)) → (b : Bool) → p x ≡ b → (y : List ℕ) × Contains (x ∷ xs) y × (p y ≡ true)
 any-step p x xs e later true is = (x, (0, omega arith, refl), is)
 any-step p x xs e later false is = let rest = later (rw is at e) in (rest.0, (suc rest.1.0, (let low = rest.1.1 in omega arith), rest.1.2), rest.2)
 

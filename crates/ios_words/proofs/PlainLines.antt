@@ -1,5 +1,6 @@
 -- The plain line of each command has the command's words and kind, and is read as the command.
-use Rattle.std.proofs.Common.{◌≡◌, ◌≢◌, ℕ, ◌^◌, ◌<◌, ◌≤◌, Bool, true, false, cond, ◌==◌, ◌-◌, ◌||◌, ◌⊎◌, inl, inr, List, [], ◌∷◌, ◌++◌, Option, Some, None, refl, sym, ap, subst, ◌∙◌, arith, codes, decimal}
+use Rattle.std.proofs.Common.{◌≡◌, ◌≢◌, ℕ, ◌^◌, ◌<◌, ◌≤◌, Bool, true, false, cond, ◌==◌, ◌-◌, ◌||◌, ◌⊎◌, inl}
+use Rattle.std.proofs.Common.{inr, List, [], ◌∷◌, ◌++◌, Option, Some, None, refl, sym, ap, subst, ◌∙◌, arith, codes, decimal}
 use Rattle.std.proofs.lemmas.Bool.{and_from, and_parts, eqb-true, le-leb}
 use Rattle.std.proofs.lemmas.Fmt.{decimal_is_IsNumeral}
 use Rattle.std.proofs.lemmas.Slice.Eq.{bytes_eq-Decides}
@@ -31,7 +32,8 @@ use Rattle.ios_words.proofs.Printed.{entry-read, list_line-read}
 use Rattle.ios_words.proofs.PlainParts.{digits-mark, packet-plain, plain-append, side-plain, verdict-mark, verdict-plain}
 use Rattle.ios_words.specs.Plain.{plain_line, plain_words, FitsIn, HasKind, IsReadAs, PlainLinesAreRead}
 use Rattle.ios_words.proofs.ListReads.{list-line-read, prefix-line-read, standard-read, standard_text}
-use Rattle.ios_words.proofs.PlainReads.{address, area, bandwidth, bgp-id, cost, covers, group, hostname, interface, list-head, neighbor-down, neighbor-list, no-address, ospf-id, passive-default, passive-named, point, reference, remote-as, router-bgp, router-ospf, shutdown, tells}
+use Rattle.ios_words.proofs.PlainReads.{address, area, bandwidth, bgp-id, cost, covers, group, hostname, interface, list-head, neighbor-down}
+use Rattle.ios_words.proofs.PlainReads.{neighbor-list, no-address, ospf-id, passive-default, passive-named, point, reference, remote-as, router-bgp, router-ospf, shutdown, tells}
 use Rattle.ios_words.proofs.PlainSteps.{mask-small, wildcard-small}
 use Rattle.ios_words.proofs.PrintedSides.{whole-prefix}
 
@@ -169,7 +171,8 @@ route-plain e h =
     let ordered = h.ordered in let most = h.most in
     (verdict-plain e.permit, (prefix-plain e.prefix, lengths-plain e.prefix.len e.low e.high (omega (arith, ordered, most)) most))
 
-prefix-line : (name : List ℕ) (order : Option ℕ) (e : RouteText) → name ≢ codes "sequence-number" → is_name name ≡ true → IsOrder 4294967294 order → AreLengths e.prefix e.low e.high → IsReadAs blocks.Top (commands.PrefixLine name order e)
+prefix-line : (name : List ℕ) (order : Option ℕ) (e : RouteText) → name ≢ codes "sequence-number" → is_name name ≡ true → IsOrder 4294967294 order →
+    AreLengths e.prefix e.low e.high → IsReadAs blocks.Top (commands.PrefixLine name order e)
 prefix-line name order e other is ranged lengths =
     let words = codes "prefix-list" ∷ name ∷ sequence_words order ++ route_words e in
     let rest : ArePlain words = (refl, (name-plain name is, plain-append (sequence_words order) (route_words e) (sequence-plain order ranged) (route-plain e lengths))) in
@@ -204,48 +207,96 @@ standard-line (Some n) e fits ranged =
     record {
       written = line.0;
       kind = line.1;
-      reads = subst (λ x. ReadBy false (decimal n ∷ verdict_word e.permit ∷ side_words e.from) (rows blocks.Standard) (commands.Entry (Some n) x)) (standard-is e fits) (standard-read (Some n) e.permit e.from ranged);
+      reads = subst (λ x. ReadBy false (decimal n ∷ verdict_word e.permit ∷ side_words e.from) (rows blocks.Standard) (commands.Entry (Some n) x)) (standard-is e fits)
+          (standard-read (Some n) e.permit e.from ranged);
     }
 
 pub read-plain : PlainLinesAreRead
 read-plain blocks.Top (commands.Hostname name) stands form fit = read-as blocks.Top (commands.Hostname name) (top (codes "hostname") (name ∷ []) refl (name-plain name form, tt)) (hostname name form)
-read-plain blocks.Top (commands.Interface name) stands form fit = read-as blocks.Top (commands.Interface name) (top (codes "interface") (name ∷ []) refl (face-plain name form, tt)) (interface name form)
-read-plain blocks.Top (commands.RouterOspf n) stands form fit = read-as blocks.Top (commands.RouterOspf n) (top (codes "router") (codes "ospf" ∷ decimal n ∷ []) refl (refl, (few 1 65535 n form (omega arith), tt))) (router-ospf n form)
-read-plain blocks.Top (commands.RouterBgp n) stands form fit = read-as blocks.Top (commands.RouterBgp n) (top (codes "router") (codes "bgp" ∷ decimal n ∷ []) refl (refl, (few 1 4294967295 n form (omega arith), tt))) (router-bgp n form)
-read-plain blocks.Top (commands.ListBlock true name) stands form fit = read-as blocks.Top (commands.ListBlock true name) (top (codes "ip") (codes "access-list" ∷ codes "extended" ∷ name ∷ []) refl (refl, (refl, (name-plain name form, tt)))) (list-head true name form)
-read-plain blocks.Top (commands.ListBlock false name) stands form fit = read-as blocks.Top (commands.ListBlock false name) (top (codes "ip") (codes "access-list" ∷ codes "standard" ∷ name ∷ []) refl (refl, (refl, (name-plain name form, tt)))) (list-head false name form)
+read-plain blocks.Top (commands.Interface name) stands form fit =
+    read-as blocks.Top (commands.Interface name) (top (codes "interface") (name ∷ []) refl (face-plain name form, tt)) (interface name form)
+read-plain blocks.Top (commands.RouterOspf n) stands form fit =
+    read-as blocks.Top (commands.RouterOspf n) (top (codes "router") (codes "ospf" ∷ decimal n ∷ []) refl (refl, (few 1 65535 n form (omega arith), tt))) (router-ospf n form)
+read-plain blocks.Top (commands.RouterBgp n) stands form fit =
+    read-as blocks.Top (commands.RouterBgp n) (top (codes "router") (codes "bgp" ∷ decimal n ∷ []) refl (refl, (few 1 4294967295 n form (omega arith), tt))) (router-bgp n form)
+read-plain blocks.Top (commands.ListBlock true name) stands form fit =
+    read-as blocks.Top (commands.ListBlock true name) (top (codes "ip") (codes "access-list" ∷ codes "extended" ∷ name ∷ []) refl (refl, (refl, (name-plain name form, tt)))) (list-head true name form)
+read-plain blocks.Top (commands.ListBlock false name) stands form fit =
+    read-as blocks.Top (commands.ListBlock false name) (top (codes "ip") (codes "access-list" ∷ codes "standard" ∷ name ∷ []) refl (refl, (refl, (name-plain name form, tt))))
+    (list-head false name form)
 read-plain blocks.Top (commands.ListLine text e) stands form fit = list-line text e stands form
 read-plain blocks.Top (commands.PrefixLine name order e) stands form fit = prefix-line name order e stands form.0 form.1 form.2
-read-plain blocks.Interface (commands.Address addr len) stands form fit = read-as blocks.Interface (commands.Address addr len) (inner (codes "ip") (codes "address" ∷ address_text addr ∷ address_text (mask len) ∷ []) (refl, (refl, (address-plain addr fit, (address-plain (mask len) (mask-small len), tt)))) refl) (address addr len fit form)
-read-plain blocks.Interface commands.NoAddress stands form fit = read-as blocks.Interface commands.NoAddress (inner (codes "no") (codes "ip" ∷ codes "address" ∷ []) (refl, (refl, (refl, tt))) refl) (no-address)
+read-plain blocks.Interface (commands.Address addr len) stands form fit =
+    read-as blocks.Interface (commands.Address addr len)
+    (inner (codes "ip") (codes "address" ∷ address_text addr ∷ address_text (mask len) ∷ [])
+    (refl, (refl, (address-plain addr fit, (address-plain (mask len) (mask-small len), tt)))) refl) (address addr len fit form)
+read-plain blocks.Interface commands.NoAddress stands form fit =
+    read-as blocks.Interface commands.NoAddress (inner (codes "no") (codes "ip" ∷ codes "address" ∷ []) (refl, (refl, (refl, tt))) refl) (no-address)
 read-plain blocks.Interface (commands.Shutdown true) stands form fit = read-as blocks.Interface (commands.Shutdown true) (inner (codes "shutdown") ([]) (refl, tt) refl) (shutdown true)
-read-plain blocks.Interface (commands.Shutdown false) stands form fit = read-as blocks.Interface (commands.Shutdown false) (inner (codes "no") (codes "shutdown" ∷ []) (refl, (refl, tt)) refl) (shutdown false)
-read-plain blocks.Interface (commands.Bandwidth n) stands form fit = read-as blocks.Interface (commands.Bandwidth n) (inner (codes "bandwidth") (decimal n ∷ []) (refl, (few 1 100000000 n form (omega arith), tt)) refl) (bandwidth n form)
-read-plain blocks.Interface (commands.Cost n) stands form fit = read-as blocks.Interface (commands.Cost n) (inner (codes "ip") (codes "ospf" ∷ codes "cost" ∷ decimal n ∷ []) (refl, (refl, (refl, (few 1 65535 n form (omega arith), tt)))) refl) (cost n form)
-read-plain blocks.Interface (commands.Area a) stands form fit = read-as blocks.Interface (commands.Area a) (inner (codes "ip") (codes "ospf" ∷ decimal a.process ∷ codes "area" ∷ decimal a.area ∷ []) (refl, (refl, (few 1 65535 a.process form (omega arith), (refl, (decimal-plain a.area (omega (arith, fit)), tt))))) refl) (area a form fit)
-read-plain blocks.Interface (commands.Point true) stands form fit = read-as blocks.Interface (commands.Point true) (inner (codes "ip") (codes "ospf" ∷ codes "network" ∷ codes "point-to-point" ∷ []) (refl, (refl, (refl, (refl, tt)))) refl) (point true)
-read-plain blocks.Interface (commands.Point false) stands form fit = read-as blocks.Interface (commands.Point false) (inner (codes "ip") (codes "ospf" ∷ codes "network" ∷ codes "broadcast" ∷ []) (refl, (refl, (refl, (refl, tt)))) refl) (point false)
-read-plain blocks.Interface (commands.Group name true) stands form fit = read-as blocks.Interface (commands.Group name true) (inner (codes "ip") (codes "access-group" ∷ name ∷ codes "in" ∷ []) (refl, (refl, (name-plain name form, (refl, tt)))) refl) (group name true form)
-read-plain blocks.Interface (commands.Group name false) stands form fit = read-as blocks.Interface (commands.Group name false) (inner (codes "ip") (codes "access-group" ∷ name ∷ codes "out" ∷ []) (refl, (refl, (name-plain name form, (refl, tt)))) refl) (group name false form)
-read-plain blocks.Ospf (commands.Covers p n) stands form fit = read-as blocks.Ospf (commands.Covers p n) (inner (codes "network") (address_text p.addr ∷ address_text (2 ^ (32 - p.len) - 1) ∷ codes "area" ∷ decimal n ∷ []) (refl, (address-plain p.addr p.in_range, (address-plain (2 ^ (32 - p.len) - 1) (wildcard-small p.len), (refl, (decimal-plain n (omega (arith, fit)), tt))))) refl) (covers p n fit)
-read-plain blocks.Ospf (commands.Passive true (Some name)) stands form fit = read-as blocks.Ospf (commands.Passive true (Some name)) (inner (codes "passive-interface") (name ∷ []) (refl, (face-plain name form, tt)) refl) (passive-named true name form)
-read-plain blocks.Ospf (commands.Passive false (Some name)) stands form fit = read-as blocks.Ospf (commands.Passive false (Some name)) (inner (codes "no") (codes "passive-interface" ∷ name ∷ []) (refl, (refl, (face-plain name form, tt))) refl) (passive-named false name form)
-read-plain blocks.Ospf (commands.Passive true None) stands form fit = read-as blocks.Ospf (commands.Passive true None) (inner (codes "passive-interface") (codes "default" ∷ []) (refl, (refl, tt)) refl) (passive-default true)
-read-plain blocks.Ospf (commands.Passive false None) stands form fit = read-as blocks.Ospf (commands.Passive false None) (inner (codes "no") (codes "passive-interface" ∷ codes "default" ∷ []) (refl, (refl, (refl, tt))) refl) (passive-default false)
-read-plain blocks.Ospf (commands.Reference n) stands form fit = read-as blocks.Ospf (commands.Reference n) (inner (codes "auto-cost") (codes "reference-bandwidth" ∷ decimal n ∷ []) (refl, (refl, (few 1 4294967 n form (omega arith), tt))) refl) (reference n form)
-read-plain blocks.Ospf (commands.RouterId addr) stands form fit = read-as blocks.Ospf (commands.RouterId addr) (inner (codes "router-id") (address_text addr ∷ []) (refl, (address-plain addr fit, tt)) refl) (ospf-id addr fit)
-read-plain blocks.Bgp (commands.RemoteAs addr n) stands form fit = read-as blocks.Bgp (commands.RemoteAs addr n) (inner (codes "neighbor") (address_text addr ∷ codes "remote-as" ∷ decimal n ∷ []) (refl, (address-plain addr fit, (refl, (few 1 4294967295 n form (omega arith), tt)))) refl) (remote-as addr n fit form)
-read-plain blocks.Bgp (commands.NeighborDown addr true) stands form fit = read-as blocks.Bgp (commands.NeighborDown addr true) (inner (codes "neighbor") (address_text addr ∷ codes "shutdown" ∷ []) (refl, (address-plain addr fit, (refl, tt))) refl) (neighbor-down addr true fit)
-read-plain blocks.Bgp (commands.NeighborDown addr false) stands form fit = read-as blocks.Bgp (commands.NeighborDown addr false) (inner (codes "no") (codes "neighbor" ∷ address_text addr ∷ codes "shutdown" ∷ []) (refl, (refl, (address-plain addr fit, (refl, tt)))) refl) (neighbor-down addr false fit)
-read-plain blocks.Bgp (commands.NeighborList addr name) stands form fit = read-as blocks.Bgp (commands.NeighborList addr name) (inner (codes "neighbor") (address_text addr ∷ codes "prefix-list" ∷ name ∷ codes "in" ∷ []) (refl, (address-plain addr fit, (refl, (name-plain name form, (refl, tt))))) refl) (neighbor-list addr name fit form)
-read-plain blocks.Bgp (commands.Tells p) stands form fit = read-as blocks.Bgp (commands.Tells p) (inner (codes "network") (address_text p.addr ∷ codes "mask" ∷ address_text (mask p.len) ∷ []) (refl, (address-plain p.addr p.in_range, (refl, (address-plain (mask p.len) (mask-small p.len), tt)))) refl) (tells p)
-read-plain blocks.Bgp (commands.RouterId addr) stands form fit = read-as blocks.Bgp (commands.RouterId addr) (inner (codes "bgp") (codes "router-id" ∷ address_text addr ∷ []) (refl, (refl, (address-plain addr fit, tt))) refl) (bgp-id addr fit)
+read-plain blocks.Interface (commands.Shutdown false) stands form fit =
+    read-as blocks.Interface (commands.Shutdown false) (inner (codes "no") (codes "shutdown" ∷ []) (refl, (refl, tt)) refl) (shutdown false)
+read-plain blocks.Interface (commands.Bandwidth n) stands form fit =
+    read-as blocks.Interface (commands.Bandwidth n) (inner (codes "bandwidth") (decimal n ∷ []) (refl, (few 1 100000000 n form (omega arith), tt)) refl) (bandwidth n form)
+read-plain blocks.Interface (commands.Cost n) stands form fit =
+    read-as blocks.Interface (commands.Cost n) (inner (codes "ip") (codes "ospf" ∷ codes "cost" ∷ decimal n ∷ []) (refl, (refl, (refl, (few 1 65535 n form (omega arith), tt)))) refl) (cost n form)
+read-plain blocks.Interface (commands.Area a) stands form fit =
+    read-as blocks.Interface (commands.Area a)
+    (inner (codes "ip") (codes "ospf" ∷ decimal a.process ∷ codes "area" ∷ decimal a.area ∷ [])
+    (refl, (refl, (few 1 65535 a.process form (omega arith), (refl, (decimal-plain a.area (omega (arith, fit)), tt))))) refl) (area a form fit)
+read-plain blocks.Interface (commands.Point true) stands form fit =
+    read-as blocks.Interface (commands.Point true) (inner (codes "ip") (codes "ospf" ∷ codes "network" ∷ codes "point-to-point" ∷ []) (refl, (refl, (refl, (refl, tt)))) refl) (point true)
+read-plain blocks.Interface (commands.Point false) stands form fit =
+    read-as blocks.Interface (commands.Point false) (inner (codes "ip") (codes "ospf" ∷ codes "network" ∷ codes "broadcast" ∷ []) (refl, (refl, (refl, (refl, tt)))) refl) (point false)
+read-plain blocks.Interface (commands.Group name true) stands form fit =
+    read-as blocks.Interface (commands.Group name true) (inner (codes "ip") (codes "access-group" ∷ name ∷ codes "in" ∷ []) (refl, (refl, (name-plain name form, (refl, tt)))) refl)
+    (group name true form)
+read-plain blocks.Interface (commands.Group name false) stands form fit =
+    read-as blocks.Interface (commands.Group name false) (inner (codes "ip") (codes "access-group" ∷ name ∷ codes "out" ∷ []) (refl, (refl, (name-plain name form, (refl, tt)))) refl)
+    (group name false form)
+read-plain blocks.Ospf (commands.Covers p n) stands form fit =
+    read-as blocks.Ospf (commands.Covers p n)
+    (inner (codes "network") (address_text p.addr ∷ address_text (2 ^ (32 - p.len) - 1) ∷ codes "area" ∷ decimal n ∷ [])
+    (refl, (address-plain p.addr p.in_range, (address-plain (2 ^ (32 - p.len) - 1) (wildcard-small p.len), (refl, (decimal-plain n (omega (arith, fit)), tt))))) refl) (covers p n fit)
+read-plain blocks.Ospf (commands.Passive true (Some name)) stands form fit =
+    read-as blocks.Ospf (commands.Passive true (Some name)) (inner (codes "passive-interface") (name ∷ []) (refl, (face-plain name form, tt)) refl) (passive-named true name form)
+read-plain blocks.Ospf (commands.Passive false (Some name)) stands form fit =
+    read-as blocks.Ospf (commands.Passive false (Some name)) (inner (codes "no") (codes "passive-interface" ∷ name ∷ []) (refl, (refl, (face-plain name form, tt))) refl)
+    (passive-named false name form)
+read-plain blocks.Ospf (commands.Passive true None) stands form fit =
+    read-as blocks.Ospf (commands.Passive true None) (inner (codes "passive-interface") (codes "default" ∷ []) (refl, (refl, tt)) refl) (passive-default true)
+read-plain blocks.Ospf (commands.Passive false None) stands form fit =
+    read-as blocks.Ospf (commands.Passive false None) (inner (codes "no") (codes "passive-interface" ∷ codes "default" ∷ []) (refl, (refl, (refl, tt))) refl) (passive-default false)
+read-plain blocks.Ospf (commands.Reference n) stands form fit =
+    read-as blocks.Ospf (commands.Reference n) (inner (codes "auto-cost") (codes "reference-bandwidth" ∷ decimal n ∷ []) (refl, (refl, (few 1 4294967 n form (omega arith), tt))) refl)
+    (reference n form)
+read-plain blocks.Ospf (commands.RouterId addr) stands form fit =
+    read-as blocks.Ospf (commands.RouterId addr) (inner (codes "router-id") (address_text addr ∷ []) (refl, (address-plain addr fit, tt)) refl) (ospf-id addr fit)
+read-plain blocks.Bgp (commands.RemoteAs addr n) stands form fit =
+    read-as blocks.Bgp (commands.RemoteAs addr n)
+    (inner (codes "neighbor") (address_text addr ∷ codes "remote-as" ∷ decimal n ∷ []) (refl, (address-plain addr fit, (refl, (few 1 4294967295 n form (omega arith), tt)))) refl)
+    (remote-as addr n fit form)
+read-plain blocks.Bgp (commands.NeighborDown addr true) stands form fit =
+    read-as blocks.Bgp (commands.NeighborDown addr true) (inner (codes "neighbor") (address_text addr ∷ codes "shutdown" ∷ []) (refl, (address-plain addr fit, (refl, tt))) refl)
+    (neighbor-down addr true fit)
+read-plain blocks.Bgp (commands.NeighborDown addr false) stands form fit =
+    read-as blocks.Bgp (commands.NeighborDown addr false)
+    (inner (codes "no") (codes "neighbor" ∷ address_text addr ∷ codes "shutdown" ∷ []) (refl, (refl, (address-plain addr fit, (refl, tt)))) refl) (neighbor-down addr false fit)
+read-plain blocks.Bgp (commands.NeighborList addr name) stands form fit =
+    read-as blocks.Bgp (commands.NeighborList addr name)
+    (inner (codes "neighbor") (address_text addr ∷ codes "prefix-list" ∷ name ∷ codes "in" ∷ []) (refl, (address-plain addr fit, (refl, (name-plain name form, (refl, tt))))) refl)
+    (neighbor-list addr name fit form)
+read-plain blocks.Bgp (commands.Tells p) stands form fit = read-as blocks.Bgp (commands.Tells p)
+    (inner (codes "network") (address_text p.addr ∷ codes "mask" ∷ address_text (mask p.len) ∷ [])
+    (refl, (address-plain p.addr p.in_range, (refl, (address-plain (mask p.len) (mask-small p.len), tt)))) refl) (tells p)
+read-plain blocks.Bgp (commands.RouterId addr) stands form fit =
+    read-as blocks.Bgp (commands.RouterId addr) (inner (codes "bgp") (codes "router-id" ∷ address_text addr ∷ []) (refl, (refl, (address-plain addr fit, tt))) refl) (bgp-id addr fit)
 read-plain blocks.Extended (commands.Entry order e) stands form fit = extended-line order e stands form
 read-plain blocks.Standard (commands.Entry order e) stands form fit = standard-line order e stands form
 read-plain _ _ stands form fit = absurd stands
 
 -- an entry of one prefix alone, and that of all prefixes
-pub route-line : (name : List ℕ) (order : Option ℕ) (permit : Bool) (p : Prefix) → is_name name ≡ true → name ≢ codes "sequence-number" → IsOrder 4294967294 order → IsReadAs blocks.Top (commands.PrefixLine name order (route_text permit p))
+pub route-line : (name : List ℕ) (order : Option ℕ) (permit : Bool) (p : Prefix) → is_name name ≡ true → name ≢ codes "sequence-number" →
+    IsOrder 4294967294 order → IsReadAs blocks.Top (commands.PrefixLine name order (route_text permit p))
 route-line name order permit p is other ranged =
     let most : p.len ≤ 32 = p.length in
     prefix-line name order (route_text permit p) other is ranged (record { least = omega arith; ordered = omega arith; most = most })
@@ -254,7 +305,8 @@ all-length : whole.len ≡ 0
 unfolding holding
 all-length = refl
 
-pub all-routes-line : (name : List ℕ) (order : Option ℕ) → is_name name ≡ true → name ≢ codes "sequence-number" → IsOrder 4294967294 order → IsReadAs blocks.Top (commands.PrefixLine name order all_routes)
+pub all-routes-line : (name : List ℕ) (order : Option ℕ) → is_name name ≡ true → name ≢ codes "sequence-number" → IsOrder 4294967294 order →
+    IsReadAs blocks.Top (commands.PrefixLine name order all_routes)
 all-routes-line name order is other ranged = prefix-line name order all_routes other is ranged (record { least = omega (arith, all-length); ordered = omega arith; most = omega arith })
 
 pub closing-line : IsClosingLine (codes "!")

@@ -61,7 +61,11 @@ ports-plain e = choice ArePlain (are_all_ports e.low e.high) _ _ tt (choice AreP
 pub packet-plain : (e : PacketText) → ArePlain (packet_words e)
 packet-plain e = (
   verdict-plain e.permit,
-  (service-plain e, plain-append (side_words e.from ++ side_words e.to) (port_words e.low e.high) (plain-append (side_words e.from) (side_words e.to) (side-plain e.from) (side-plain e.to)) (ports-plain e)),
+  (
+    service-plain e,
+    plain-append (side_words e.from ++ side_words e.to) (port_words e.low e.high)
+        (plain-append (side_words e.from) (side_words e.to) (side-plain e.from) (side-plain e.to)) (ports-plain e),
+  ),
 )
 
 pub verdict-mark : (permit : Bool) → is_mark (verdict_word permit) ≡ false

@@ -32,9 +32,12 @@ prefix-names ws list order e reads same =
     let two = word-read (codes "prefix-list") (Place Name ∷ Bracket (codes "seq") (Order 4294967294) ∷ route_parts) 1 one.rest (no_values false) reads.values one.later in
     let three = name-read (Bracket (codes "seq") (Order 4294967294) ∷ route_parts) 2 two.rest (no_values false) reads.values two.later in
     let kept : Ok reads.values ≡ map_values (to_text three.name) (Ok reads.values) =
-    sym three.later ∙ read-kept (to_text three.name) (Bracket (codes "seq") (Order 4294967294) ∷ route_parts) (at 3 three.rest (record (no_values false) { text = three.name })) refl ∙ ap (map_values (to_text three.name)) three.later in
+    sym three.later ∙ read-kept (to_text three.name) (Bracket (codes "seq") (Order 4294967294) ∷ route_parts) (at 3 three.rest (record (no_values false) { text = three.name })) refl
+    ∙ ap (map_values (to_text three.name)) three.later in
     let text : reads.values.text ≡ three.name = ap (λ (v : Values). v.text) (same-values reads.values (changed (to_text three.name) reads.values) kept) in
-    let words : ws ≡ codes "ip" ∷ codes "prefix-list" ∷ three.name ∷ three.rest = one.are ∙ ap (λ (l : List (List ℕ)). codes "ip" ∷ l) (two.are ∙ ap (λ (l : List (List ℕ)). codes "prefix-list" ∷ l) three.are) in
-    let other : bytes_eq three.name (codes "sequence-number") ≡ false = named-other three.name three.rest (subst (λ (l : List (List ℕ)). find (completes false l) (take 81 (rows blocks.Top)) ≡ None) words by.none) in
+    let words : ws ≡ codes "ip" ∷ codes "prefix-list" ∷ three.name ∷ three.rest =
+    one.are ∙ ap (λ (l : List (List ℕ)). codes "ip" ∷ l) (two.are ∙ ap (λ (l : List (List ℕ)). codes "prefix-list" ∷ l) three.are) in
+    let other : bytes_eq three.name (codes "sequence-number") ≡ false =
+    named-other three.name three.rest (subst (λ (l : List (List ℕ)). find (completes false l) (take 81 (rows blocks.Top)) ≡ None) words by.none) in
     let name : three.name ≡ codes "sequence-number" = sym text ∙ sym (list-text list order reads.values e given) ∙ same in
     absurd (false≢true (sym other ∙ (bytes_eq-Decides three.name (codes "sequence-number")).1 name))

@@ -1,5 +1,6 @@
 -- A line is read by a row of the language: entries of extended lists.
-use Rattle.std.proofs.Common.{◌≡◌, ℕ, ◌+◌, ◌^◌, ◌<◌, Bool, true, false, List, [], ◌∷◌, ◌++◌, take, drop, Option, Some, None, Ok, refl, sym, ap, ◌∙◌, arith, codes, decimal, append_assoc, take-append-drop, is_ok}
+use Rattle.std.proofs.Common.{◌≡◌, ℕ, ◌+◌, ◌^◌, ◌<◌, Bool, true, false, List, [], ◌∷◌, ◌++◌, take, drop}
+use Rattle.std.proofs.Common.{Option, Some, None, Ok, refl, sym, ap, ◌∙◌, arith, codes, decimal, append_assoc, take-append-drop, is_ok}
 use Rattle.std.proofs.lemmas.Bool.{cond-true, cond-false}
 use Rattle.std.proofs.lemmas.List.Folds.{find-append}
 use Rattle.std.specs.List.{find}
@@ -38,7 +39,8 @@ fails-by extended ws rule other = cond-false (matches ws rule) (is_ok (read exte
 pub reads-at : (extended : Bool) (ws : List (List ℕ)) (rules : List Rule) (n : ℕ) (rule : Rule) (after : List Rule) (values : Values) (command : Command) → drop n rules ≡ rule ∷ after →
     find (completes extended ws) (take n rules) ≡ None → matches ws rule ≡ true → read extended ws rule ≡ Ok values → command ≡ give rule.meaning values → ReadBy extended ws rules command
 reads-at extended ws rules n rule after values command there none match complete gives =
-    let here : find (completes extended ws) (rule ∷ after) ≡ Some rule = cond-true (completes extended ws rule) (Some rule) (find (completes extended ws) after) (completes-by extended ws rule values match complete) in
+    let here : find (completes extended ws) (rule ∷ after) ≡ Some rule =
+    cond-true (completes extended ws rule) (Some rule) (find (completes extended ws) after) (completes-by extended ws rule values match complete) in
     record {
       rule = rule;
       values = values;
@@ -102,8 +104,10 @@ packet-read e writable taken v =
     record {
       addr = sides.addr;
       len = sides.len;
-      read = ap finish (chain Verdict (Protocol ∷ side_parts) (at taken (packet_words e) (record v { extended = true })) _ (verdict-step e.permit taken (protocol_word e.low e.high ∷ rest) (record v { extended = true }))
-          ∙ chain Protocol side_parts (at (taken + 1) (protocol_word e.low e.high ∷ rest) (record v { extended = true; permit = e.permit })) _ (protocol-step e writable (taken + 1) rest (record v { permit = e.permit }))
+      read = ap finish (chain Verdict (Protocol ∷ side_parts) (at taken (packet_words e) (record v { extended = true })) _
+          (verdict-step e.permit taken (protocol_word e.low e.high ∷ rest) (record v { extended = true }))
+          ∙ chain Protocol side_parts (at (taken + 1) (protocol_word e.low e.high ∷ rest) (record v { extended = true; permit = e.permit })) _
+          (protocol-step e writable (taken + 1) rest (record v { permit = e.permit }))
           ∙ sides.read);
     }
 
@@ -125,10 +129,12 @@ entry-read None e writable ranged =
     let packet = packet-read e writable 0 (no_values true) in
     let words = packet_words e in
     let begins : begins_entry words ≡ true = verdict-begins e.permit (drop 1 words) in
-    let stays : step EntryNumber (at 0 words (no_values true)) ≡ Ok (at 0 words (no_values true)) = cond-true (begins_entry words) (Ok (at 0 words (no_values true))) (place (Order 2147483647) (at 0 words (no_values true))) begins in
+    let stays : step EntryNumber (at 0 words (no_values true)) ≡ Ok (at 0 words (no_values true)) =
+    cond-true (begins_entry words) (Ok (at 0 words (no_values true))) (place (Order 2147483647) (at 0 words (no_values true))) begins in
     let stands : after EntryNumber words ≡ Some words = ap Some (cond-true (begins_entry words) words (drop 1 words) begins) in
     reads-at true words (rows blocks.Extended) 1 _ _ _ (Entry None e) refl
-    (none-split (completes true words) [] remark [] refl (fails-by true words remark (ap (λ o. option_map_or (match_words (Word (codes "remark") ∷ Anything ∷ [])) o false) stands ∙ no-remark e.permit (drop 1 words))) refl)
+    (none-split (completes true words) [] remark [] refl
+    (fails-by true words remark (ap (λ o. option_map_or (match_words (Word (codes "remark") ∷ Anything ∷ [])) o false) stands ∙ no-remark e.permit (drop 1 words))) refl)
     (ap (λ o. option_map_or (match_words entry_parts) o false) stands ∙ verdict-matches e.permit (drop 1 words))
     (ap finish (chain EntryNumber entry_parts (at 0 words (no_values true)) (at 0 words (no_values true)) stays) ∙ packet.read) refl
 entry-read (Some n) e writable ranged =
@@ -138,15 +144,18 @@ entry-read (Some n) e writable ranged =
     let words = decimal n ∷ packet_words e in
     let tail = packet_words e in
     let number : step EntryNumber (at 0 words (no_values true)) ≡ Ok (at 1 tail v) =
-    cond-false (begins_entry words) (Ok (at 0 words (no_values true))) (place (Order 2147483647) (at 0 words (no_values true))) (number-begins n tail small) ∙ order-step 2147483647 0 n tail (no_values true) ranged.0 ranged.1 small in
+    cond-false (begins_entry words) (Ok (at 0 words (no_values true))) (place (Order 2147483647) (at 0 words (no_values true))) (number-begins n tail small)
+    ∙ order-step 2147483647 0 n tail (no_values true) ranged.0 ranged.1 small in
     let skip : after EntryNumber words ≡ Some tail = ap Some (cond-false (begins_entry words) words tail (number-begins n tail small)) in
     reads-at true words (rows blocks.Extended) 1 _ _ _ (Entry (Some n) e) refl
-    (none-split (completes true words) [] remark [] refl (fails-by true words remark (ap (λ o. option_map_or (match_words (Word (codes "remark") ∷ Anything ∷ [])) o false) skip ∙ no-remark e.permit (drop 1 tail))) refl)
+    (none-split (completes true words) [] remark [] refl
+    (fails-by true words remark (ap (λ o. option_map_or (match_words (Word (codes "remark") ∷ Anything ∷ [])) o false) skip ∙ no-remark e.permit (drop 1 tail))) refl)
     (ap (λ o. option_map_or (match_words entry_parts) o false) skip ∙ verdict-matches e.permit (drop 1 tail))
     (ap finish (chain EntryNumber entry_parts (at 0 words (no_values true)) (at 1 tail v) number) ∙ packet.read) refl
 
 -- an entry of a numbered list, as a line
-pub list_line-read : (name : List ℕ) (e : PacketText) → IsWritable e → list_kind (number_of name) ≡ Some true → ReadBy false (codes "access-list" ∷ name ∷ packet_words e) (rows blocks.Top) (ListLine name e)
+pub list_line-read : (name : List ℕ) (e : PacketText) → IsWritable e → list_kind (number_of name) ≡ Some true →
+    ReadBy false (codes "access-list" ∷ name ∷ packet_words e) (rows blocks.Top) (ListLine name e)
 list_line-read name e writable is =
     let v = record (no_values false) { text = name } in
     let tail = packet_words e in

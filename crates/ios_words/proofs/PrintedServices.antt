@@ -1,5 +1,6 @@
 -- The services of an entry that the program writes are read as its services.
-use Rattle.std.proofs.Common.{◌≡◌, ℕ, ◌+◌, ◌*◌, ◌%◌, ◌^◌, ◌<◌, ◌≤◌, ◌==◌, ◌&&◌, ◌||◌, not, nat_le, nat_lt, Bool, true, false, cond, List, [], ◌∷◌, Option, Some, None, Ok, refl, sym, ap, subst, ◌∙◌, arith, codes, decimal, ⊎_elim}
+use Rattle.std.proofs.Common.{◌≡◌, ℕ, ◌+◌, ◌*◌, ◌%◌, ◌^◌, ◌<◌, ◌≤◌, ◌==◌, ◌&&◌, ◌||◌, not, nat_le, nat_lt, Bool, true, false}
+use Rattle.std.proofs.Common.{cond, List, [], ◌∷◌, Option, Some, None, Ok, refl, sym, ap, subst, ◌∙◌, arith, codes, decimal, ⊎_elim}
 use Rattle.std.proofs.lemmas.Bool.{cases_Bool, and_parts, and_from, cond-true, cond-false, eqb-true, leb-true, le-leb, ltb-true}
 use Rattle.std.proofs.lemmas.Nat.{div-add-mod'}
 use Rattle.std.proofs.lemmas.Option.{none-some, same_Some}
@@ -14,7 +15,8 @@ use Rattle.ios_words.specs.Numbers.{ranged, is_from, number_in}
 use Rattle.ios_words.specs.Readings.{State, after_word, then_do, place, ports, step}
 use Rattle.ios_words.specs.Rows.{Protocol, Ports}
 use Rattle.ios_words.specs.ServiceRanges.{all, of_ports, of_protocol, services_of}
-use Rattle.ios_words.specs.Services.{protocol, port, protocol_names, protocol_text, tcp_ports, udp_ports, port_names, number_named, port_of, has_ports, are_all, are_all_ports, IsWritable, protocol_word, port_words}
+use Rattle.ios_words.specs.Services.{protocol, port, protocol_names, protocol_text, tcp_ports, udp_ports, port_names}
+use Rattle.ios_words.specs.Services.{number_named, port_of, has_ports, are_all, are_all_ports, IsWritable, protocol_word, port_words}
 use Rattle.ios_words.specs.Values.{Values, with_value, with_ports}
 use Rattle.ios_words.proofs.PrintedSteps.{at, decimal-word, ranged-decimal}
 use Rattle.ios_words.proofs.ServicesBetween.{is-between, protocol-of, port-of}
@@ -88,13 +90,17 @@ port-read number p most =
 -- a port, and the first and the last of some, where the protocol is known
 one-read : (taken n p : ℕ) (v : Values) → protocol v.services.low ≡ n → p ≤ 65535 → place Port (at taken (decimal p ∷ []) v) ≡ Ok (at (taken + 1) [] (record v { services = of_ports n p p }))
 one-read taken n p v is most =
-    ap (λ o. after_word (taken + 1) [] (with_value (λ m. with_ports v m m) o)) (port-read (protocol v.services.low) p most) ∙ ap (λ m. Ok (at (taken + 1) [] (record v { services = of_ports m p p }))) is
+    ap (λ o. after_word (taken + 1) [] (with_value (λ m. with_ports v m m) o)) (port-read (protocol v.services.low) p most)
+    ∙ ap (λ m. Ok (at (taken + 1) [] (record v { services = of_ports m p p }))) is
 
-first-read : (taken n p : ℕ) (rest : List (List ℕ)) (v : Values) → protocol v.services.low ≡ n → p ≤ 65535 → place FirstPort (at taken (decimal p ∷ rest) v) ≡ Ok (at (taken + 1) rest (record v { services = of_ports n p 65535 }))
+first-read : (taken n p : ℕ) (rest : List (List ℕ)) (v : Values) → protocol v.services.low ≡ n → p ≤ 65535 →
+    place FirstPort (at taken (decimal p ∷ rest) v) ≡ Ok (at (taken + 1) rest (record v { services = of_ports n p 65535 }))
 first-read taken n p rest v is most =
-    ap (λ o. after_word (taken + 1) rest (with_value (λ m. with_ports v m 65535) o)) (port-read (protocol v.services.low) p most) ∙ ap (λ m. Ok (at (taken + 1) rest (record v { services = of_ports m p 65535 }))) is
+    ap (λ o. after_word (taken + 1) rest (with_value (λ m. with_ports v m 65535) o)) (port-read (protocol v.services.low) p most)
+    ∙ ap (λ m. Ok (at (taken + 1) rest (record v { services = of_ports m p 65535 }))) is
 
-last-read : (taken n p q : ℕ) (v : Values) → protocol v.services.low ≡ n → port v.services.low ≡ p → p ≤ q → q ≤ 65535 → place LastPort (at taken (decimal q ∷ []) v) ≡ Ok (at (taken + 1) [] (record v { services = of_ports n p q }))
+last-read : (taken n p q : ℕ) (v : Values) → protocol v.services.low ≡ n → port v.services.low ≡ p → p ≤ q → q ≤ 65535 →
+    place LastPort (at taken (decimal q ∷ []) v) ≡ Ok (at (taken + 1) [] (record v { services = of_ports n p q }))
 last-read taken n p q v is first ordered most =
     let inside : is_from (port v.services.low) 65535 q ≡ true = ap (λ m. is_from m 65535 q) first ∙ and_from _ _ (le-leb p q ordered) (le-leb q 65535 most) in
     let read : ranged (port v.services.low) 65535 (port_of (protocol v.services.low) (decimal q)) ≡ Some q =
@@ -118,7 +124,8 @@ record OneProtocol (e : PacketText) : Type 0 where
 
 one-protocol : (e : PacketText) → IsWritable e → are_all e.low e.high ≡ false → OneProtocol e
 one-protocol e writable other =
-    let rest = sym (ap (λ b. b || (protocol e.low == protocol e.high && nat_le 1 (protocol e.low) && nat_le (protocol e.low) 255 && (are_all_ports e.low e.high || has_ports (protocol e.low)))) other) ∙ writable in
+    let rest = sym (ap (λ b.
+    b || (protocol e.low == protocol e.high && nat_le 1 (protocol e.low) && nat_le (protocol e.low) 255 && (are_all_ports e.low e.high || has_ports (protocol e.low)))) other) ∙ writable in
     let last = and_parts _ _ rest in
     let most = and_parts _ _ last.0 in
     let first = and_parts _ _ most.0 in
@@ -175,7 +182,8 @@ own-protocol e one = protocol-of (protocol e.low) 0 65535 one.few (omega arith) 
 ports-there : (e : PacketText) → OneProtocol e → has_ports (protocol e.low) ≡ true → (s : State) → s.values.services ≡ of_protocol (protocol e.low) → step Ports s ≡ ports s
 ports-there e one has s is = cond-true (has_ports (protocol s.values.services.low)) (ports s) (Ok s) (ap (λ (r : Services). has_ports (protocol r.low)) is ∙ ap has_ports (own-protocol e one) ∙ has)
 
-eq-read : (e : PacketText) → OneProtocol e → has_ports (protocol e.low) ≡ true → e.low ≡ e.high → (taken : ℕ) (v : Values) → PortsRead (codes "eq" ∷ decimal (port e.low) ∷ []) (of_protocol (protocol e.low)) (services_in e) taken v
+eq-read : (e : PacketText) → OneProtocol e → has_ports (protocol e.low) ≡ true → e.low ≡ e.high → (taken : ℕ) (v : Values) →
+    PortsRead (codes "eq" ∷ decimal (port e.low) ∷ []) (of_protocol (protocol e.low)) (services_in e) taken v
 eq-read e one has alone taken v =
     let start = record v { services = of_protocol (protocol e.low) } in
     let same : of_ports (protocol e.low) (port e.low) (port e.low) ≡ services_in e = ap (λ m. of_ports (protocol e.low) (port e.low) (port m)) alone ∙ entry-ports e one.same in
@@ -186,7 +194,8 @@ eq-read e one has alone taken v =
           ∙ ap (λ r. Ok (at (taken + 1 + 1) [] (record v { services = r }))) same;
     }
 
-range-read : (e : PacketText) → OneProtocol e → has_ports (protocol e.low) ≡ true → (taken : ℕ) (v : Values) → PortsRead (codes "range" ∷ decimal (port e.low) ∷ decimal (port e.high) ∷ []) (of_protocol (protocol e.low)) (services_in e) taken v
+range-read : (e : PacketText) → OneProtocol e → has_ports (protocol e.low) ≡ true → (taken : ℕ) (v : Values) →
+    PortsRead (codes "range" ∷ decimal (port e.low) ∷ decimal (port e.high) ∷ []) (of_protocol (protocol e.low)) (services_in e) taken v
 range-read e one has taken v =
     let start = record v { services = of_protocol (protocol e.low) } in
     let mid = record v { services = of_ports (protocol e.low) (port e.low) 65535 } in
@@ -194,7 +203,8 @@ range-read e one has taken v =
       after = taken + 1 + 1 + 1;
       read = ports-there e one has (at taken (codes "range" ∷ decimal (port e.low) ∷ decimal (port e.high) ∷ []) start) refl
           ∙ ap (then_do (place LastPort)) (first-read (taken + 1) (protocol e.low) (port e.low) (decimal (port e.high) ∷ []) start (own-protocol e one) (port-few e.low))
-          ∙ last-read (taken + 1 + 1) (protocol e.low) (port e.low) (port e.high) mid (protocol-of (protocol e.low) (port e.low) 65535 one.few (port-few e.low) (omega arith)) (port-of (protocol e.low) (port e.low) 65535 one.few (port-few e.low) (omega arith)) (port-order e one.same) (port-few e.high)
+          ∙ last-read (taken + 1 + 1) (protocol e.low) (port e.low) (port e.high) mid (protocol-of (protocol e.low) (port e.low) 65535 one.few (port-few e.low) (omega arith))
+          (port-of (protocol e.low) (port e.low) 65535 one.few (port-few e.low) (omega arith)) (port-order e one.same) (port-few e.high)
           ∙ ap (λ r. Ok (at (taken + 1 + 1 + 1) [] (record v { services = r }))) (entry-ports e one.same);
     }
 
@@ -213,7 +223,8 @@ some-ports : (e : PacketText) → OneProtocol e → (taken : ℕ) (v : Values) �
 some-ports e one taken v = by (are_all_ports e.low e.high) (e.low == e.high) refl refl
   where
     by : (b c : Bool) → are_all_ports e.low e.high ≡ b → (e.low == e.high) ≡ c →
-        PortsRead (cond b [] (cond c (codes "eq" ∷ decimal (port e.low) ∷ []) (codes "range" ∷ decimal (port e.low) ∷ decimal (port e.high) ∷ []))) (of_protocol (protocol e.low)) (services_in e) taken v
+        PortsRead (cond b [] (cond c (codes "eq" ∷ decimal (port e.low) ∷ []) (codes "range" ∷ decimal (port e.low) ∷ decimal (port e.high) ∷ []))) (of_protocol (protocol e.low))
+        (services_in e) taken v
     by true c is other = none-read _ _ taken v (all-ports-same e one is)
     by false true is alone = eq-read e one (or-right _ _ is one.or_ports) (eqb-true _ _ alone) taken v
     by false false is other = range-read e one (or-right _ _ is one.or_ports) taken v

@@ -75,7 +75,8 @@ pub side-by : (extended : Bool) (p : Prefix) (rest : List (List ℕ)) (taken : �
 side-by extended p rest taken v width = ⊎_elim
     (λ none. subst (λ ws. SideRead extended ws rest p taken v) (sym (cond-true (p.len == 0) (codes "any" ∷ []) _ none)) (side-any extended p rest taken v (eqb-true p.len 0 none)))
     (λ some. subst (λ ws. SideRead extended ws rest p taken v) (sym (cond-false (p.len == 0) (codes "any" ∷ []) _ some)) (⊎_elim
-    (λ full. subst (λ ws. SideRead extended ws rest p taken v) (sym (cond-true (p.len == 32) (codes "host" ∷ address_text p.addr ∷ []) _ full)) (side-host extended p rest taken v (eqb-true p.len 32 full)))
+    (λ full. subst (λ ws. SideRead extended ws rest p taken v) (sym (cond-true (p.len == 32) (codes "host" ∷ address_text p.addr ∷ []) _ full))
+    (side-host extended p rest taken v (eqb-true p.len 32 full)))
     (λ wide. subst (λ ws. SideRead extended ws rest p taken v) (sym (cond-false (p.len == 32) (codes "host" ∷ address_text p.addr ∷ []) _ wide)) (side-wide extended p rest taken v width))
     (cases_Bool (p.len == 32))))
     (cases_Bool (p.len == 0))

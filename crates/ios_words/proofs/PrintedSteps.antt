@@ -1,5 +1,6 @@
 -- What a word that the program writes gives where it is read.
-use Rattle.std.proofs.Common.{◌≡◌, ℕ, zero, suc, ◌+◌, ◌-◌, ◌*◌, ◌/◌, ◌%◌, ◌^◌, ◌<◌, ◌≤◌, ◌==◌, ◌&&◌, ◌||◌, nat_le, Bool, true, false, List, [], ◌∷◌, ◌++◌, length, drop, Option, Some, None, Ok, Err, refl, sym, ap, subst, ◌∙◌, arith, codes, decimal, get_or, append-nil, append_assoc}
+use Rattle.std.proofs.Common.{◌≡◌, ℕ, zero, suc, ◌+◌, ◌-◌, ◌*◌, ◌/◌, ◌%◌, ◌^◌, ◌<◌, ◌≤◌, ◌==◌, ◌&&◌, ◌||◌, nat_le, Bool, true, false, List}
+use Rattle.std.proofs.Common.{[], ◌∷◌, ◌++◌, length, drop, Option, Some, None, Ok, Err, refl, sym, ap, subst, ◌∙◌, arith, codes, decimal, get_or, append-nil, append_assoc}
 use Rattle.std.proofs.lemmas.Bool.{and_parts, cond-true, and_from, le-leb, eqb-true, ne_eqb}
 use Rattle.std.proofs.Math.Nat.{mod-eq_of_lt, one-le-pow, pow-le-pow_right}
 use Rattle.std.proofs.lemmas.Nat.{div-add-mod'}
@@ -35,13 +36,16 @@ at taken words values = record { taken = taken; words = words; values = values }
 pub chain : (piece : Piece) (pieces : List Piece) (s t : State) → step piece s ≡ Ok t → read_parts (piece ∷ pieces) s ≡ read_parts pieces t
 chain piece pieces s t is = ap (then_do (read_parts pieces)) is
 
-pub name-step : (taken : ℕ) (word : List ℕ) (rest : List (List ℕ)) (v : Values) → is_name word ≡ true → step (Place Name) (at taken (word ∷ rest) v) ≡ Ok (at (taken + 1) rest (record v { text = word }))
+pub name-step : (taken : ℕ) (word : List ℕ) (rest : List (List ℕ)) (v : Values) → is_name word ≡ true →
+    step (Place Name) (at taken (word ∷ rest) v) ≡ Ok (at (taken + 1) rest (record v { text = word }))
 name-step taken word rest v is = ap (λ b. after_word (taken + 1) rest (with_value (λ w. record v { text = w }) (tested b word))) is
 
-pub face-step : (taken : ℕ) (word : List ℕ) (rest : List (List ℕ)) (v : Values) → is_face_name word ≡ true → step (Place FaceName) (at taken (word ∷ rest) v) ≡ Ok (at (taken + 1) rest (record v { text = word }))
+pub face-step : (taken : ℕ) (word : List ℕ) (rest : List (List ℕ)) (v : Values) → is_face_name word ≡ true →
+    step (Place FaceName) (at taken (word ∷ rest) v) ≡ Ok (at (taken + 1) rest (record v { text = word }))
 face-step taken word rest v is = ap (λ b. after_word (taken + 1) rest (with_value (λ w. record v { text = w }) (tested b word))) is
 
-pub address-step : (taken addr : ℕ) (rest : List (List ℕ)) (v : Values) → addr < 2 ^ 32 → step (Place Address) (at taken (address_text addr ∷ rest) v) ≡ Ok (at (taken + 1) rest (record v { address = addr }))
+pub address-step : (taken addr : ℕ) (rest : List (List ℕ)) (v : Values) → addr < 2 ^ 32 →
+    step (Place Address) (at taken (address_text addr ∷ rest) v) ≡ Ok (at (taken + 1) rest (record v { address = addr }))
 address-step taken addr rest v small = ap (λ o. after_word (taken + 1) rest (with_value (λ a. record v { address = a }) o)) (address_of-address_text addr small)
 
 -- a number in its range
@@ -49,10 +53,12 @@ pub ranged-decimal : (low high n : ℕ) → low ≤ n → n ≤ high → n < 2 ^
 ranged-decimal low high n least most small =
     ap (ranged low high) (number_of-decimal n small) ∙ cond-true (is_from low high n) (Some n) None (and_from _ _ (le-leb low n least) (le-leb n high most))
 
-pub order-step : (high taken n : ℕ) (rest : List (List ℕ)) (v : Values) → 1 ≤ n → n ≤ high → n < 2 ^ 64 → step (Place (Order high)) (at taken (decimal n ∷ rest) v) ≡ Ok (at (taken + 1) rest (record v { order = Some n }))
+pub order-step : (high taken n : ℕ) (rest : List (List ℕ)) (v : Values) → 1 ≤ n → n ≤ high → n < 2 ^ 64 →
+    step (Place (Order high)) (at taken (decimal n ∷ rest) v) ≡ Ok (at (taken + 1) rest (record v { order = Some n }))
 order-step high taken n rest v some most small = ap (λ o. after_word (taken + 1) rest (with_value (λ m. record v { order = Some m }) o)) (ranged-decimal 1 high n some most small)
 
-pub list_number-step : (taken : ℕ) (word : List ℕ) (rest : List (List ℕ)) (v : Values) → list_kind (number_of word) ≡ Some true → step (Place ListNumber) (at taken (word ∷ rest) v) ≡ Ok (at (taken + 1) rest (record v { text = word; extended = true }))
+pub list_number-step : (taken : ℕ) (word : List ℕ) (rest : List (List ℕ)) (v : Values) → list_kind (number_of word) ≡ Some true →
+    step (Place ListNumber) (at taken (word ∷ rest) v) ≡ Ok (at (taken + 1) rest (record v { text = word; extended = true }))
 list_number-step taken word rest v is = ap (λ o. after_word (taken + 1) rest (with_value (λ extended. record v { text = word; extended = extended }) o)) is
 
 pub verdict-step : (permit : Bool) (taken : ℕ) (rest : List (List ℕ)) (v : Values) → step Verdict (at taken (verdict_word permit ∷ rest) v) ≡ Ok (at (taken + 1) rest (record v { permit = permit }))
@@ -133,7 +139,8 @@ wildcard-read len low =
     let few : 2 ^ (32 - len) ≤ 2 ^ 32 = pow-le-pow_right {n = 2} (omega arith) {i = 32 - len} {j = 32} (omega arith) in
     let small : 2 ^ (32 - len) - 1 < 2 ^ 32 = omega arith in
     let turned : 2 ^ 32 - 1 - (2 ^ (32 - len) - 1) ≡ mask len = omega arith in
-    ap wildcard_of_address (address_of-address_text (2 ^ (32 - len) - 1) small) ∙ ap (λ a. length_from 0 (mask_ones a)) turned ∙ ap (length_from 0) (ones-mask len low) ∙ cond-true (nat_le 0 len) (Ok len) (Err Amiss) (le-leb 0 len (omega arith))
+    ap wildcard_of_address (address_of-address_text (2 ^ (32 - len) - 1) small) ∙ ap (λ a. length_from 0 (mask_ones a)) turned ∙ ap (length_from 0) (ones-mask len low)
+    ∙ cond-true (nat_le 0 len) (Ok len) (Err Amiss) (le-leb 0 len (omega arith))
 
 -- the address and the length of a prefix
 pub route-read : (p : Prefix) → route_of (prefix_text p) ≡ Some (p.addr, p.len)
@@ -142,7 +149,8 @@ route-read p =
     ap route_parts (prefix_cut p) ∙ ap (λ a. both a (number_in 0 32 (decimal p.len))) (address_of-address_text p.addr p.in_range)
     ∙ ap (both (Some p.addr)) (ranged-decimal 0 32 p.len (omega arith) (omega arith) (omega arith))
 
-pub route-step : (p : Prefix) (taken : ℕ) (rest : List (List ℕ)) (v : Values) → step (Place Route) (at taken (prefix_text p ∷ rest) v) ≡ Ok (at (taken + 1) rest (record v { to = p; low = p.len; high = p.len }))
+pub route-step : (p : Prefix) (taken : ℕ) (rest : List (List ℕ)) (v : Values) →
+    step (Place Route) (at taken (prefix_text p ∷ rest) v) ≡ Ok (at (taken + 1) rest (record v { to = p; low = p.len; high = p.len }))
 route-step p taken rest v =
     ap (λ o. after_word (taken + 1) rest (with_value (λ r. record v { to = holding r.0 r.1; low = r.1; high = r.1 }) o)) (route-read p)
     ∙ ap (λ (q : Prefix). Ok (at (taken + 1) rest (record v { to = q; low = p.len; high = p.len }))) (holding-prefix p)

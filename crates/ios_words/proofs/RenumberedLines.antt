@@ -1,5 +1,6 @@
 -- Entries whose numbers change are read as the same entries with the other numbers.
-use Rattle.std.proofs.Common.{◌≡◌, ℕ, ◌^◌, ◌<◌, ◌||◌, not, Bool, true, false, cond, List, [], ◌∷◌, ◌++◌, take, drop, Option, Some, None, Result, Ok, Err, refl, sym, ap, subst, ◌∙◌, arith, codes, decimal, ⊎_elim, is_ok, true≢false}
+use Rattle.std.proofs.Common.{◌≡◌, ℕ, ◌^◌, ◌<◌, ◌||◌, not, Bool, true, false, cond, List, [], ◌∷◌, ◌++◌, take, drop}
+use Rattle.std.proofs.Common.{Option, Some, None, Result, Ok, Err, refl, sym, ap, subst, ◌∙◌, arith, codes, decimal, ⊎_elim, is_ok, true≢false}
 use Rattle.std.proofs.lemmas.Bool.{cases_Bool, cond-true, cond-false}
 use Rattle.std.proofs.lemmas.List.Folds.{find-append}
 use Rattle.std.proofs.lemmas.Option.{none-some, same_Some}
@@ -60,7 +61,8 @@ entry-by ws o e reads = ⊎_elim
     let given : Entry o e ≡ give means.Inert reads.values = reads.gives ∙ ap (λ (r : Rule). give r.meaning reads.values) (sym rule) in
     absurd cc)
     (λ other.
-    let second : cond (completes true ws entry_row) (Some entry_row) None ≡ Some reads.rule = sym (cond-false (completes true ws remark) (Some remark) (find (completes true ws) (entry_row ∷ [])) other) ∙ reads.first in
+    let second : cond (completes true ws entry_row) (Some entry_row) None ≡ Some reads.rule =
+    sym (cond-false (completes true ws remark) (Some remark) (find (completes true ws) (entry_row ∷ [])) other) ∙ reads.first in
     ⊎_elim
     (λ here. (here, sym (same_Some entry_row reads.rule (sym (cond-true (completes true ws entry_row) (Some entry_row) None here) ∙ second))))
     (λ none. absurd (none-some reads.rule (sym (cond-false (completes true ws entry_row) (Some entry_row) None none) ∙ second)))
@@ -97,14 +99,17 @@ number-read word ws values n complete ordered = by (begins_entry (word ∷ ws)) 
     s : List ℕ → List (List ℕ) → State
     s word ws = start true (word ∷ ws)
 
-    some-number : (word : List ℕ) (ws : List (List ℕ)) (values : Values) (o : Option ℕ) → begins_entry (word ∷ ws) ≡ false → finish (then_do (read_parts rest) (after_word 1 ws (with_value (λ k. record (no_values true) { order = Some k }) o))) ≡ Ok values → NumberRead word ws values
+    some-number : (word : List ℕ) (ws : List (List ℕ)) (values : Values) (o : Option ℕ) → begins_entry (word ∷ ws) ≡ false →
+        finish (then_do (read_parts rest) (after_word 1 ws (with_value (λ k. record (no_values true) { order = Some k }) o))) ≡ Ok values → NumberRead word ws values
     some-number word ws values None no_entry is = no-ok values _ _ is refl
     some-number word ws values (Some k) no_entry is = record { begins = no_entry; number = k; rest_read = is }
 
     by : (b : Bool) → begins_entry (word ∷ ws) ≡ b → NumberRead word ws values
     by true entry =
-        let stays : read true (word ∷ ws) entry_row ≡ finish (read_parts rest (start true (word ∷ ws))) = ap (λ b. finish (then_do (read_parts rest) (cond b (Ok (start true (word ∷ ws))) (place (Order 2147483647) (start true (word ∷ ws)))))) entry in
-        let kept : Ok values ≡ map_values (to_order None) (Ok values) = sym (sym stays ∙ complete) ∙ read-kept (to_order None) rest (start true (word ∷ ws)) refl ∙ ap (map_values (to_order None)) (sym stays ∙ complete) in
+        let stays : read true (word ∷ ws) entry_row ≡ finish (read_parts rest (start true (word ∷ ws))) =
+        ap (λ b. finish (then_do (read_parts rest) (cond b (Ok (start true (word ∷ ws))) (place (Order 2147483647) (start true (word ∷ ws)))))) entry in
+        let kept : Ok values ≡ map_values (to_order None) (Ok values) =
+        sym (sym stays ∙ complete) ∙ read-kept (to_order None) rest (start true (word ∷ ws)) refl ∙ ap (map_values (to_order None)) (sym stays ∙ complete) in
         let none : values ≡ changed (to_order None) values = one-ok values (changed (to_order None) values) (Ok values) refl kept in
         let clash : None ≡ Some n = sym (ap (λ (v : Values). v.order) none) ∙ ordered in
         absurd (none-some n clash)
@@ -130,11 +135,13 @@ entries-renumbered word ws n m e reads ranged =
     sym (ap (λ b. match_words rest (cond b (word ∷ ws) ws)) old.begins) ∙ matches-by true (word ∷ ws) entry_row (matches (word ∷ ws) entry_row) refl completed in
     let skip : after EntryNumber words ≡ Some ws = ap (λ b. Some (cond b words ws)) no_entry in
     let number : step EntryNumber (at 0 words (no_values true)) ≡ Ok (at 1 ws v) =
-    cond-false (begins_entry words) (Ok (at 0 words (no_values true))) (place (Order 2147483647) (at 0 words (no_values true))) no_entry ∙ order-step 2147483647 0 m ws (no_values true) ranged.0 ranged.1 small in
+    cond-false (begins_entry words) (Ok (at 0 words (no_values true))) (place (Order 2147483647) (at 0 words (no_values true))) no_entry
+    ∙ order-step 2147483647 0 m ws (no_values true) ranged.0 ranged.1 small in
     let again : finish (read_parts rest (at 1 ws v)) ≡ Ok (changed (to_order (Some m)) reads.values) =
     read-kept (to_order (Some m)) rest (at 1 ws (record (no_values true) { order = Some old.number })) refl ∙ ap (map_values (to_order (Some m))) old.rest_read in
     reads-at true words (rows blocks.Extended) 1 entry_row [] (changed (to_order (Some m)) reads.values) (Entry (Some m) e) refl
-    (none-split (completes true words) [] remark [] refl (fails-by true words remark (ap (λ o. option_map_or (match_words (Word (codes "remark") ∷ Anything ∷ [])) o false) skip ∙ verdict-first ws matched)) refl)
+    (none-split (completes true words) [] remark [] refl
+    (fails-by true words remark (ap (λ o. option_map_or (match_words (Word (codes "remark") ∷ Anything ∷ [])) o false) skip ∙ verdict-first ws matched)) refl)
     (ap (λ o. option_map_or (match_words rest) o false) skip ∙ matched)
     (ap finish (chain EntryNumber rest (at 0 words (no_values true)) (at 1 ws v) number) ∙ again)
     (ap (Entry (Some m)) parts.1)
@@ -178,14 +185,16 @@ prefix-by ws list o e reads = by (find (completes false ws) (take 81 (rows block
     by : (f : Option Rule) → find (completes false ws) (take 81 (rows blocks.Top)) ≡ f → PrefixBy ws reads.rule
     by (Some rule) is =
         let same : rule ≡ reads.rule = same_Some rule reads.rule
-        (sym (ap (λ f. option_or f (find (completes false ws) (drop 81 (rows blocks.Top)))) is) ∙ sym (find-append (completes false ws) (take 81 (rows blocks.Top)) (drop 81 (rows blocks.Top))) ∙ reads.first) in
+        (sym (ap (λ f. option_or f (find (completes false ws) (drop 81 (rows blocks.Top)))) is)
+        ∙ sym (find-append (completes false ws) (take 81 (rows blocks.Top)) (drop 81 (rows blocks.Top))) ∙ reads.first) in
         let other : not (is_prefix rule.meaning) ≡ true = find-passes (completes false ws) no_prefix (take 81 (rows blocks.Top)) rule is refl in
         let given : PrefixLine list o e ≡ give rule.meaning reads.values = reads.gives ∙ ap (λ (r : Rule). give r.meaning reads.values) (sym same) in
         let prefix : is_prefix rule.meaning ≡ true = sym (prefix-give rule.meaning reads.values) ∙ ap is_prefix_line (sym given) in
         absurd (true≢false (sym other ∙ ap not prefix))
     by None is =
         let last : cond (completes false ws prefix_row) (Some prefix_row) None ≡ Some reads.rule =
-        sym (ap (λ f. option_or f (find (completes false ws) (drop 81 (rows blocks.Top)))) is) ∙ sym (find-append (completes false ws) (take 81 (rows blocks.Top)) (drop 81 (rows blocks.Top))) ∙ reads.first in
+        sym (ap (λ f. option_or f (find (completes false ws) (drop 81 (rows blocks.Top)))) is)
+        ∙ sym (find-append (completes false ws) (take 81 (rows blocks.Top)) (drop 81 (rows blocks.Top))) ∙ reads.first in
         ⊎_elim
         (λ here. record { none = is; completed = here; rule = sym (same_Some prefix_row reads.rule (sym (cond-true (completes false ws prefix_row) (Some prefix_row) None here) ∙ last)) })
         (λ other. absurd (none-some reads.rule (sym (cond-false (completes false ws prefix_row) (Some prefix_row) None other) ∙ last)))
@@ -203,12 +212,14 @@ none-at p (b ∷ before) rule later none = ⊎_elim
     (cases_Bool (p b))
 
 -- the name of a list that is read is not the word of the inert row
-pub named-other : (name : List ℕ) (ws : List (List ℕ)) → find (completes false (codes "ip" ∷ codes "prefix-list" ∷ name ∷ ws)) (take 81 (rows blocks.Top)) ≡ None → bytes_eq name (codes "sequence-number") ≡ false
+pub named-other : (name : List ℕ) (ws : List (List ℕ)) →
+    find (completes false (codes "ip" ∷ codes "prefix-list" ∷ name ∷ ws)) (take 81 (rows blocks.Top)) ≡ None → bytes_eq name (codes "sequence-number") ≡ false
 named-other name ws none = ⊎_elim
     (λ same.
     let words = codes "ip" ∷ codes "prefix-list" ∷ name ∷ ws in
     let yes_it : completes false words sequence_number ≡ true =
-    (λ i. cond (option_map_or (match_words (Anything ∷ [])) (cond (same i) (Some ws) None) false) (is_ok (finish (then_do (read_parts (Anything ∷ [])) (after_word 3 ws (cond (same i) (Ok (no_values false)) (Err Amiss)))))) false) in
+    (λ i. cond (option_map_or (match_words (Anything ∷ [])) (cond (same i) (Some ws) None) false)
+    (is_ok (finish (then_do (read_parts (Anything ∷ [])) (after_word 3 ws (cond (same i) (Ok (no_values false)) (Err Amiss)))))) false) in
     let no_it = none-at (completes false words) (take 61 (rows blocks.Top)) sequence_number (take 19 (drop 62 (rows blocks.Top))) none in
     absurd (true≢false (sym yes_it ∙ no_it)))
     (λ other. other)
@@ -220,19 +231,25 @@ record SequenceRead (name word : List ℕ) (ws : List (List ℕ)) (values : Valu
   number : ℕ
   rest_read : finish (read_parts route_parts (at 5 ws (record (no_values false) { text = name; order = Some number }))) ≡ Ok values
 
-sequence-read : (name word : List ℕ) (ws : List (List ℕ)) (values : Values) → read false (codes "ip" ∷ codes "prefix-list" ∷ name ∷ codes "seq" ∷ word ∷ ws) prefix_row ≡ Ok values → SequenceRead name word ws values
+sequence-read : (name word : List ℕ) (ws : List (List ℕ)) (values : Values) →
+    read false (codes "ip" ∷ codes "prefix-list" ∷ name ∷ codes "seq" ∷ word ∷ ws) prefix_row ≡ Ok values → SequenceRead name word ws values
 sequence-read name word ws values complete = by (is_name name) refl
   where
-    some-number : (name word : List ℕ) (ws : List (List ℕ)) (values : Values) (o : Option ℕ) → is_name name ≡ true → finish (then_do (read_parts route_parts) (after_word 5 ws (with_value (λ k. record (no_values false) { text = name; order = Some k }) o))) ≡ Ok values → SequenceRead name word ws values
+    some-number : (name word : List ℕ) (ws : List (List ℕ)) (values : Values) (o : Option ℕ) → is_name name ≡ true →
+        finish (then_do (read_parts route_parts) (after_word 5 ws (with_value (λ k. record (no_values false) { text = name; order = Some k }) o))) ≡ Ok values → SequenceRead name word ws values
     some-number name word ws values None named is = no-ok values _ _ is refl
     some-number name word ws values (Some k) named is = record { named = named; number = k; rest_read = is }
 
     by : (b : Bool) → is_name name ≡ b → SequenceRead name word ws values
     by true named =
         some-number name word ws values (number_in 1 4294967294 word) named
-        (sym (ap (λ b. finish (then_do (read_parts (Bracket (codes "seq") (Order 4294967294) ∷ route_parts)) (after_word 3 (codes "seq" ∷ word ∷ ws) (with_value (λ w. record (no_values false) { text = w }) (tested b name))))) named) ∙ complete)
+        (sym (ap (λ b. finish
+        (then_do (read_parts (Bracket (codes "seq") (Order 4294967294) ∷ route_parts))
+        (after_word 3 (codes "seq" ∷ word ∷ ws) (with_value (λ w. record (no_values false) { text = w }) (tested b name))))) named) ∙ complete)
     by false unnamed =
-        no-ok values _ _ (sym (ap (λ b. finish (then_do (read_parts (Bracket (codes "seq") (Order 4294967294) ∷ route_parts)) (after_word 3 (codes "seq" ∷ word ∷ ws) (with_value (λ w. record (no_values false) { text = w }) (tested b name))))) unnamed) ∙ complete) refl
+        no-ok values _ _ (sym
+        (ap (λ b. finish (then_do (read_parts (Bracket (codes "seq") (Order 4294967294) ∷ route_parts))
+        (after_word 3 (codes "seq" ∷ word ∷ ws) (with_value (λ w. record (no_values false) { text = w }) (tested b name))))) unnamed) ∙ complete) refl
 
 prefix-parts : (list other : List ℕ) (o p : Option ℕ) (e f : RouteText) → PrefixLine list o e ≡ PrefixLine other p f → (list ≡ other) × (e ≡ f)
 prefix-parts list other o p e f is = (cc, cc)
@@ -257,7 +274,8 @@ prefix-lines-renumbered name word list ws n m e reads ranged =
     let again : finish (read_parts route_parts (at 5 ws (record v { order = Some m }))) ≡ Ok (changed (to_order (Some m)) reads.values) =
     read-kept (to_order (Some m)) route_parts (at 5 ws (record v { order = Some old.number })) refl ∙ ap (map_values (to_order (Some m))) old.rest_read in
     reads-at false words (rows blocks.Top) 81 prefix_row [] (changed (to_order (Some m)) reads.values) (PrefixLine list (Some m) e) refl
-    (none-split (completes false words) (take 61 (rows blocks.Top)) sequence_number (take 19 (drop 62 (rows blocks.Top))) refl (fails-by false words sequence_number (no-sequence name tail other)) refl)
+    (none-split (completes false words) (take 61 (rows blocks.Top)) sequence_number (take 19 (drop 62 (rows blocks.Top))) refl
+    (fails-by false words sequence_number (no-sequence name tail other)) refl)
     matched
     (ap finish (chain (Place Name) (Bracket (codes "seq") (Order 4294967294) ∷ route_parts) (at 2 (name ∷ tail) (no_values false)) (at 3 tail v) (name-step 2 name tail (no_values false) old.named)
     ∙ chain (Bracket (codes "seq") (Order 4294967294)) route_parts (at 3 tail v) (at 5 ws (record v { order = Some m })) (order-step 4294967294 4 m ws v ranged.0 ranged.1 small)) ∙ again)

@@ -1,5 +1,6 @@
 -- A last word that ends with a carriage return is a word of a row that says nothing.
-use Rattle.std.proofs.Common.{◌≡◌, ℕ, ◌+◌, ◌-◌, ◌^◌, ◌<◌, ◌==◌, ◌&&◌, ◌||◌, ◌⊎◌, inl, inr, not, Bool, true, false, cond, Option, Some, None, List, [], ◌∷◌, ◌++◌, filter, refl, sym, ap, subst, ◌∙◌, arith, ⊎_elim, Result, Ok, Err}
+use Rattle.std.proofs.Common.{◌≡◌, ℕ, ◌+◌, ◌-◌, ◌^◌, ◌<◌, ◌==◌, ◌&&◌, ◌||◌, ◌⊎◌, inl, inr, not, Bool, true, false, cond}
+use Rattle.std.proofs.Common.{Option, Some, None, List, [], ◌∷◌, ◌++◌, filter, refl, sym, ap, subst, ◌∙◌, arith, ⊎_elim, Result, Ok, Err}
 use Rattle.std.specs.Prelude.{is_ok, find, bytes_eq, nat_lt, if◌then◌else◌}
 use Rattle.std.specs.Option.{option_map_or, option_or}
 use Rattle.std.specs.List.{list_all, list_any, slice_split, onto_first}
@@ -66,7 +67,8 @@ last-part : (line : List ℕ) → LastPart line
 last-part [] = record { front = []; last = []; with_it = refl; without = refl }
 last-part (b ∷ line) = by (is_blank b) refl (last-part line)
   where
-    onto : (front : List (List ℕ)) (last : List ℕ) → slice_split is_blank (line ++ 13 ∷ []) ≡ front ++ returned last ∷ [] → slice_split is_blank line ≡ front ++ last ∷ [] → is_blank b ≡ false → LastPart (b ∷ line)
+    onto : (front : List (List ℕ)) (last : List ℕ) → slice_split is_blank (line ++ 13 ∷ []) ≡ front ++ returned last ∷ [] →
+        slice_split is_blank line ≡ front ++ last ∷ [] → is_blank b ≡ false → LastPart (b ∷ line)
     onto [] last one two fails = record {
       front = [];
       last = b ∷ last;
@@ -140,7 +142,8 @@ no-name : (v : List ℕ) → is_name (returned v) ≡ false
 no-name v = ⊎_elim (λ (holds : is_name (returned v) ≡ true). absurd (not-plain v (name-plain (returned v) holds))) (λ (fails : is_name (returned v) ≡ false). fails) (cases_Bool (is_name (returned v)))
 
 no-face : (v : List ℕ) → is_face_name (returned v) ≡ false
-no-face v = ⊎_elim (λ (holds : is_face_name (returned v) ≡ true). absurd (not-plain v (face-plain (returned v) holds))) (λ (fails : is_face_name (returned v) ≡ false). fails) (cases_Bool (is_face_name (returned v)))
+no-face v = ⊎_elim (λ (holds : is_face_name (returned v) ≡ true). absurd (not-plain v (face-plain (returned v) holds))) (λ (fails : is_face_name (returned v) ≡ false). fails)
+    (cases_Bool (is_face_name (returned v)))
 
 -- which parts of rows have no such word
 abbrev known_form : Form → Bool
@@ -179,7 +182,8 @@ form-refuses forms.Address vals v x known h = none-refuses (λ a. record vals { 
 form-refuses forms.Network vals v x known h = none-refuses (λ p. record vals { to = p }) (class_prefix (address_of (returned v))) x (ap class_prefix (no-address v)) h
 form-refuses (forms.Mask least) vals v x known h = err-ok Amiss x (ap (λ o. with_length vals (mask_of_address least o)) (sym (no-address v)) ∙ h)
 form-refuses forms.Wildcard vals v x known h = err-ok Amiss x (ap (λ o. with_length vals (wildcard_of_address o)) (sym (no-address v)) ∙ h)
-form-refuses forms.Area vals v x known h = none-refuses (λ a. record vals { area = a }) (area_of (returned v)) x ((let n = no-number v in let a = no-address v in λ i. option_or (ranged 0 (2 ^ 32 - 1) (n i)) (a i))) h
+form-refuses forms.Area vals v x known h = none-refuses (λ a. record vals { area = a }) (area_of (returned v)) x
+    ((let n = no-number v in let a = no-address v in λ i. option_or (ranged 0 (2 ^ 32 - 1) (n i)) (a i))) h
 form-refuses _ vals v x known h = absurd (false≢true known)
 
 abbrev words-of : Result State WordFault → List (List ℕ)
@@ -205,7 +209,8 @@ any-return (b ∷ v) = by (b == 13) (any-return v)
     by false is = is
 
 -- rows without any words at their end refuse them
-refuses : (pieces : List Piece) → list_all plain_piece pieces ≡ true → (front : List (List ℕ)) (v : List ℕ) (taken : ℕ) (vals : Values) (t : State) → read_parts pieces (at taken (with_return front v) vals) ≡ Ok t → t.words ≡ [] → ⊥
+refuses : (pieces : List Piece) → list_all plain_piece pieces ≡ true → (front : List (List ℕ)) (v : List ℕ) (taken : ℕ) (vals : Values) (t : State) →
+    read_parts pieces (at taken (with_return front v) vals) ≡ Ok t → t.words ≡ [] → ⊥
 refuses [] plain front v taken vals t h none = no-words front v (same-state (at taken (with_return front v) vals) t (read_parts [] (at taken (with_return front v) vals)) refl h ∙ none)
 refuses (Word w ∷ pieces) plain [] v taken vals t h none = by (bytes_eq (returned v) w) refl h
   where
@@ -244,13 +249,15 @@ record StillReads (pieces : List Piece) (ws : List (List ℕ)) (taken : ℕ) (va
 still-any : (ws : List (List ℕ)) (taken : ℕ) (vals : Values) → StillReads (Anything ∷ []) ws taken vals
 still-any ws taken vals = record { state = at taken [] vals; reads = refl; whole = refl; fits = refl }
 
-still : (pieces : List Piece) → plain_before pieces ≡ true → (front : List (List ℕ)) (v : List ℕ) (taken : ℕ) (vals : Values) (t : State) → read_parts pieces (at taken (with_return front v) vals) ≡ Ok t → t.words ≡ [] →
+still : (pieces : List Piece) → plain_before pieces ≡ true → (front : List (List ℕ)) (v : List ℕ) (taken : ℕ) (vals : Values) (t : State) →
+    read_parts pieces (at taken (with_return front v) vals) ≡ Ok t → t.words ≡ [] →
     StillReads pieces (without_return front v) taken vals
 still [] plain front v taken vals t h none = absurd (false≢true plain)
 still (Anything ∷ []) plain front v taken vals t h none = still-any (without_return front v) taken vals
 still (Word w ∷ pieces) plain [] v taken vals t h none = by (bytes_eq (returned v) w) refl h
   where
-    by : (b : Bool) → bytes_eq (returned v) w ≡ b → then_do (read_parts pieces) (after_word (taken + 1) [] (if b then Ok vals else Err Amiss)) ≡ Ok t → StillReads (Word w ∷ pieces) (without_return [] v) taken vals
+    by : (b : Bool) → bytes_eq (returned v) w ≡ b → then_do (read_parts pieces) (after_word (taken + 1) [] (if b then Ok vals else Err Amiss)) ≡ Ok t →
+        StillReads (Word w ∷ pieces) (without_return [] v) taken vals
     by true same k =
         let word : returned v ≡ w = (bytes_eq-Decides (returned v) w).0 same in
         let has : list_any (λ b. b == 13) w ≡ true = ap (list_any (λ b. b == 13)) (sym word) ∙ any-return v in
@@ -259,7 +266,8 @@ still (Word w ∷ pieces) plain [] v taken vals t h none = by (bytes_eq (returne
 still (Word w ∷ pieces) plain (f ∷ front) v taken vals t h none = by (bytes_eq f w) refl h (still pieces (and_parts _ _ plain).1 front v (taken + 1) vals t)
   where
     by : (b : Bool) → bytes_eq f w ≡ b → then_do (read_parts pieces) (after_word (taken + 1) (with_return front v) (if b then Ok vals else Err Amiss)) ≡ Ok t →
-        (read_parts pieces (at (taken + 1) (with_return front v) vals) ≡ Ok t → t.words ≡ [] → StillReads pieces (without_return front v) (taken + 1) vals) → StillReads (Word w ∷ pieces) (without_return (f ∷ front) v) taken vals
+        (read_parts pieces (at (taken + 1) (with_return front v) vals) ≡ Ok t → t.words ≡ [] → StillReads pieces (without_return front v) (taken + 1) vals) →
+        StillReads (Word w ∷ pieces) (without_return (f ∷ front) v) taken vals
     by true same k deeper =
         let rest = deeper k none in
         record {
@@ -271,13 +279,15 @@ still (Word w ∷ pieces) plain (f ∷ front) v taken vals t h none = by (bytes_
     by false same k deeper = absurd (err-ok (fault_at (taken + 1) Amiss) t k)
 still (Place form ∷ pieces) plain [] v taken vals t h none = by (values_with form vals (returned v)) refl h
   where
-    by : (r : Result Values Flaw) → values_with form vals (returned v) ≡ r → then_do (read_parts pieces) (after_word (taken + 1) [] r) ≡ Ok t → StillReads (Place form ∷ pieces) (without_return [] v) taken vals
+    by : (r : Result Values Flaw) → values_with form vals (returned v) ≡ r → then_do (read_parts pieces) (after_word (taken + 1) [] r) ≡ Ok t →
+        StillReads (Place form ∷ pieces) (without_return [] v) taken vals
     by (Ok x) is k = absurd (form-refuses form vals v x (and_parts _ _ plain).0 is)
     by (Err flaw) is k = absurd (err-ok (fault_at (taken + 1) flaw) t k)
 still (Place form ∷ pieces) plain (f ∷ front) v taken vals t h none = by (values_with form vals f) refl h (λ (x : Values). still pieces (and_parts _ _ plain).1 front v (taken + 1) x t)
   where
     by : (r : Result Values Flaw) → values_with form vals f ≡ r → then_do (read_parts pieces) (after_word (taken + 1) (with_return front v) r) ≡ Ok t →
-        ((x : Values) → read_parts pieces (at (taken + 1) (with_return front v) x) ≡ Ok t → t.words ≡ [] → StillReads pieces (without_return front v) (taken + 1) x) → StillReads (Place form ∷ pieces) (without_return (f ∷ front) v) taken vals
+        ((x : Values) → read_parts pieces (at (taken + 1) (with_return front v) x) ≡ Ok t → t.words ≡ [] → StillReads pieces (without_return front v) (taken + 1) x) →
+        StillReads (Place form ∷ pieces) (without_return (f ∷ front) v) taken vals
     by (Ok x) is k deeper =
         let rest = deeper x k none in
         record {
@@ -324,7 +334,8 @@ found-all : (p q : Rule → Bool) (rules : List Rule) (rule : Rule) → find p r
 found-all p q [] rule is all = absurd (none-some rule is)
 found-all p q (r ∷ rules) rule is all = by (p r) refl is (found-all p q rules rule)
   where
-    by : (b : Bool) → p r ≡ b → cond b (Some r) (find p rules) ≡ Some rule → (find p rules ≡ Some rule → list_all q rules ≡ true → (q rule ≡ true) × (p rule ≡ true)) → (q rule ≡ true) × (p rule ≡ true)
+    by : (b : Bool) → p r ≡ b → cond b (Some r) (find p rules) ≡ Some rule →
+        (find p rules ≡ Some rule → list_all q rules ≡ true → (q rule ≡ true) × (p rule ≡ true)) → (q rule ≡ true) × (p rule ≡ true)
     by true passes e deeper = let same = same_Some r rule e in (subst (λ (x : Rule). q x ≡ true) same (and_parts _ _ all).0, subst (λ (x : Rule). p x ≡ true) same passes)
     by false fails e deeper = deeper e (and_parts _ _ all).1
 
@@ -345,14 +356,16 @@ module _ (extended : Bool) (front : List (List ℕ)) (v : List ℕ) where
   rs = with_return front v
 
   -- a row that says nothing
-  still-completes : (rule : Rule) → says_nothing rule ≡ true → (vals : Values) → read extended rs rule ≡ Ok vals → (more : Values) × (completes extended ws rule ≡ true) × (read extended ws rule ≡ Ok more)
+  still-completes : (rule : Rule) → says_nothing rule ≡ true → (vals : Values) → read extended rs rule ≡ Ok vals →
+      (more : Values) × (completes extended ws rule ≡ true) × (read extended ws rule ≡ Ok more)
   still-completes rule nothing vals reads =
       let whole = read-whole rule.pieces (start extended rs) vals reads in
       let other = still rule.pieces (and_parts _ _ nothing).0 front v 0 (start extended rs).values whole.state whole.reads whole.whole in
       let value : read extended ws rule ≡ Ok other.state.values = ap finish other.reads ∙ ap (finish_words other.state) other.whole in
       (other.state.values, (let fits = other.fits in λ i. if fits i then is_ok (value i) else false), value)
 
-  reads-on : (inert others : List Rule) (c : Command) → list_all says_nothing inert ≡ true → list_all says_all others ≡ true → (rule : Rule) (vals : Values) → find (completes extended rs) (inert ++ others) ≡ Some rule → read extended rs rule ≡ Ok vals → c ≡ give rule.meaning vals →
+  reads-on : (inert others : List Rule) (c : Command) → list_all says_nothing inert ≡ true → list_all says_all others ≡ true → (rule : Rule) (vals : Values) →
+      find (completes extended rs) (inert ++ others) ≡ Some rule → read extended rs rule ≡ Ok vals → c ≡ give rule.meaning vals →
       ReadBy extended ws (inert ++ others) c × (c ≡ commands.Inert)
   reads-on [] others c nothing all rule vals first reads gives =
       let whole = read-whole rule.pieces (start extended rs) vals reads in
@@ -385,13 +398,15 @@ module _ (extended : Bool) (front : List (List ℕ)) (v : List ℕ) where
         both.1,
       )
 
-      by : (b : Bool) → completes extended rs r ≡ b → cond b (Some r) (find (completes extended rs) (inert ++ others)) ≡ Some rule → (find (completes extended rs) (inert ++ others) ≡ Some rule → ReadBy extended ws (inert ++ others) c × (c ≡ commands.Inert)) →
+      by : (b : Bool) → completes extended rs r ≡ b → cond b (Some r) (find (completes extended rs) (inert ++ others)) ≡ Some rule →
+          (find (completes extended rs) (inert ++ others) ≡ Some rule → ReadBy extended ws (inert ++ others) c × (c ≡ commands.Inert)) →
           ReadBy extended ws (r ∷ inert ++ others) c × (c ≡ commands.Inert)
       by true holds e deeper =
           let same : r ≡ rule = same_Some r rule e in
           let value : read extended rs r ≡ Ok vals = ap (read extended rs) same ∙ reads in
           let (more, completes_now, value_now) = still-completes r quiet vals value in
-          let inert_c : c ≡ commands.Inert = gives ∙ ap (λ (x : Rule). give x.meaning vals) (sym same) ∙ inert-gives r.meaning vals (and_parts (plain_before r.pieces) (is_inert_meaning r.meaning) quiet).1 in
+          let inert_c : c ≡ commands.Inert = gives ∙ ap (λ (x : Rule). give x.meaning vals) (sym same)
+          ∙ inert-gives r.meaning vals (and_parts (plain_before r.pieces) (is_inert_meaning r.meaning) quiet).1 in
           (here more completes_now value_now inert_c, inert_c)
       by false fails e deeper = later (completes extended ws r) refl (deeper e)
 
@@ -404,7 +419,8 @@ returns-say-nothing within kind line c reads = by kind
 
     one : (w : BlockKind) → within ≡ w → list_all says_nothing (inert_in w) ≡ true → list_all says_all (read_in w) ≡ true → ReadBy false (words line) (rows within) c × (c ≡ commands.Inert)
     one w is nothing all =
-        let here : ReadBy false (with_return l.front l.last) (rows w) c = subst (λ (k : BlockKind). ReadBy false (with_return l.front l.last) (rows k) c) is (subst (λ (ws : List (List ℕ)). ReadBy false ws (rows within) c) l.with_it reads) in
+        let here : ReadBy false (with_return l.front l.last) (rows w) c =
+        subst (λ (k : BlockKind). ReadBy false (with_return l.front l.last) (rows k) c) is (subst (λ (ws : List (List ℕ)). ReadBy false ws (rows within) c) l.with_it reads) in
         let both = reads-on false l.front l.last (inert_in w) (read_in w) c nothing all here.rule here.values here.first here.complete here.gives in
         (subst (λ (k : BlockKind). ReadBy false (words line) (rows k) c) (sym is) (subst (λ (ws : List (List ℕ)). ReadBy false ws (rows w) c) (sym l.without) both.0), both.1)
 

@@ -25,7 +25,8 @@ pub record WordRead (word : List ℕ) (pieces : List Piece) (taken : ℕ) (ws : 
   pub are : ws ≡ word ∷ rest
   pub later : finish (read_parts pieces (at (taken + 1) rest v)) ≡ Ok values
 
-pub word-read : (word : List ℕ) (pieces : List Piece) (taken : ℕ) (ws : List (List ℕ)) (v values : Values) → finish (read_parts (Word word ∷ pieces) (at taken ws v)) ≡ Ok values → WordRead word pieces taken ws v values
+pub word-read : (word : List ℕ) (pieces : List Piece) (taken : ℕ) (ws : List (List ℕ)) (v values : Values) →
+    finish (read_parts (Word word ∷ pieces) (at taken ws v)) ≡ Ok values → WordRead word pieces taken ws v values
 word-read word pieces taken [] v values is = no-ok values _ _ is refl
 word-read word pieces taken (a ∷ ws) v values is = by (bytes_eq a word) refl
   where
@@ -70,13 +71,16 @@ pub same-values : (v w : Values) → one-of v ≡ one-of w → v ≡ w
 same-values v w e = cc
 
 -- without them there is no number
-no-number : (name : List ℕ) (taken : ℕ) (ws : List (List ℕ)) (values : Values) (n : ℕ) → finish (read_parts route_parts (at taken ws (record (no_values false) { text = name }))) ≡ Ok values → values.order ≡ Some n → ⊥
+no-number : (name : List ℕ) (taken : ℕ) (ws : List (List ℕ)) (values : Values) (n : ℕ) →
+    finish (read_parts route_parts (at taken ws (record (no_values false) { text = name }))) ≡ Ok values → values.order ≡ Some n → ⊥
 no-number name taken ws values n complete ordered =
-    let kept : Ok values ≡ map_values (to_order None) (Ok values) = sym complete ∙ read-kept (to_order None) route_parts (at taken ws (record (no_values false) { text = name })) refl ∙ ap (map_values (to_order None)) complete in
+    let kept : Ok values ≡ map_values (to_order None) (Ok values) =
+    sym complete ∙ read-kept (to_order None) route_parts (at taken ws (record (no_values false) { text = name })) refl ∙ ap (map_values (to_order None)) complete in
     let none : values ≡ changed (to_order None) values = same-values values (changed (to_order None) values) kept in
     none-some n (sym (ap (λ (v : Values). v.order) none) ∙ ordered)
 
-sequence-read : (name : List ℕ) (taken : ℕ) (ws : List (List ℕ)) (values : Values) (n : ℕ) → finish (read_parts (Bracket (codes "seq") (Order 4294967294) ∷ route_parts) (at taken ws (record (no_values false) { text = name }))) ≡ Ok values → values.order ≡ Some n → SequenceWords ws
+sequence-read : (name : List ℕ) (taken : ℕ) (ws : List (List ℕ)) (values : Values) (n : ℕ) →
+    finish (read_parts (Bracket (codes "seq") (Order 4294967294) ∷ route_parts) (at taken ws (record (no_values false) { text = name }))) ≡ Ok values → values.order ≡ Some n → SequenceWords ws
 sequence-read name taken [] values n complete ordered = no-ok values _ _ complete refl
 sequence-read name taken (a ∷ []) values n complete ordered = by (bytes_eq a (codes "seq")) refl
   where
@@ -84,8 +88,11 @@ sequence-read name taken (a ∷ []) values n complete ordered = by (bytes_eq a (
     v = record (no_values false) { text = name }
 
     by : (b : Bool) → bytes_eq a (codes "seq") ≡ b → SequenceWords (a ∷ [])
-    by true same = no-ok values _ _ (sym (ap (λ b. finish (then_do (read_parts route_parts) (cond b (place (Order 4294967294) (passed (at taken (a ∷ []) v))) (Ok (at taken (a ∷ []) v))))) same) ∙ complete) refl
-    by false other = absurd (no-number name taken (a ∷ []) values n (sym (ap (λ b. finish (then_do (read_parts route_parts) (cond b (place (Order 4294967294) (passed (at taken (a ∷ []) v))) (Ok (at taken (a ∷ []) v))))) other) ∙ complete) ordered)
+    by true same = no-ok values _ _
+        (sym (ap (λ b. finish (then_do (read_parts route_parts) (cond b (place (Order 4294967294) (passed (at taken (a ∷ []) v))) (Ok (at taken (a ∷ []) v))))) same) ∙ complete) refl
+    by false other = absurd
+        (no-number name taken (a ∷ []) values n
+        (sym (ap (λ b. finish (then_do (read_parts route_parts) (cond b (place (Order 4294967294) (passed (at taken (a ∷ []) v))) (Ok (at taken (a ∷ []) v))))) other) ∙ complete) ordered)
 sequence-read name taken (a ∷ word ∷ ws) values n complete ordered = by (bytes_eq a (codes "seq")) refl
   where
     v : Values
@@ -93,7 +100,10 @@ sequence-read name taken (a ∷ word ∷ ws) values n complete ordered = by (byt
 
     by : (b : Bool) → bytes_eq a (codes "seq") ≡ b → SequenceWords (a ∷ word ∷ ws)
     by true same = record { word = word; rest = ws; are = ap (λ (x : List ℕ). x ∷ word ∷ ws) ((bytes_eq-Decides a (codes "seq")).0 same) }
-    by false other = absurd (no-number name taken (a ∷ word ∷ ws) values n (sym (ap (λ b. finish (then_do (read_parts route_parts) (cond b (place (Order 4294967294) (passed (at taken (a ∷ word ∷ ws) v))) (Ok (at taken (a ∷ word ∷ ws) v))))) other) ∙ complete) ordered)
+    by false other = absurd
+        (no-number name taken (a ∷ word ∷ ws) values n
+        (sym (ap (λ b. finish (then_do (read_parts route_parts) (cond b (place (Order 4294967294) (passed (at taken (a ∷ word ∷ ws) v))) (Ok (at taken (a ∷ word ∷ ws) v))))) other)
+        ∙ complete) ordered)
 
 prefix-order : (list other : List ℕ) (n : ℕ) (values : Values) (e : RouteText) → PrefixLine list (Some n) e ≡ give means.PrefixLine values → values.order ≡ Some n
 prefix-order list other n values e is = cc

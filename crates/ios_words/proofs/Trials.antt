@@ -32,10 +32,12 @@ partly : (extended : Bool) (words : List (List ℕ)) (rule : Rule) (fault : Word
 partly extended words rule fault e r = rw (e, r) refl
 
 -- what is said after the trial of a row
-tried_not : (extended : Bool) (words : List (List ℕ)) (fault : Option WordFault) (rule : Rule) (rules : List Rule) → matches words rule ≡ false → try_rules extended words fault (rule ∷ rules) ≡ try_rules extended words fault rules
+tried_not : (extended : Bool) (words : List (List ℕ)) (fault : Option WordFault) (rule : Rule) (rules : List Rule) → matches words rule ≡ false →
+    try_rules extended words fault (rule ∷ rules) ≡ try_rules extended words fault rules
 tried_not extended words fault rule rules e = rw e refl
 
-tried : (extended : Bool) (words : List (List ℕ)) (fault : Option WordFault) (rule : Rule) (rules : List Rule) (r : Result Values WordFault) → matches words rule ≡ true → read extended words rule ≡ r →
+tried : (extended : Bool) (words : List (List ℕ)) (fault : Option WordFault) (rule : Rule) (rules : List Rule) (r : Result Values WordFault) →
+    matches words rule ≡ true → read extended words rule ≡ r →
     try_rules extended words fault (rule ∷ rules) ≡ choose rule.meaning (λ first. try_rules extended words first rules) fault (Some r)
 tried extended words fault rule rules r e is = rw (e, is) refl
 
@@ -47,7 +49,8 @@ no_command : (a : Command) (fault : WordFault) (r : Result Command WordFault) �
 no_command a fault r one two = cc
 
 -- a command of later rows is one of all, where the first does not match with every word
-later_read : (extended : Bool) (words : List (List ℕ)) (rule : Rule) (rules : List Rule) (command : Command) → completes extended words rule ≡ false → ReadBy extended words rules command → ReadBy extended words (rule ∷ rules) command
+later_read : (extended : Bool) (words : List (List ℕ)) (rule : Rule) (rules : List Rule) (command : Command) → completes extended words rule ≡ false →
+    ReadBy extended words rules command → ReadBy extended words (rule ∷ rules) command
 later_read extended words rule rules command e is = record {
   rule = is.rule;
   values = is.values;
@@ -72,7 +75,8 @@ read_step extended words fault rule rules command later e true (Ok values) fits 
 read_step extended words fault rule rules command later e true (Err other) fits is =
     later_read extended words rule rules command (partly extended words rule other fits is) (later (Some (unwrap_or fault other)) (sym (tried extended words fault rule rules (Err other) fits is) ∙ e))
 
-pub read_found : (extended : Bool) (words : List (List ℕ)) (fault : Option WordFault) (rules : List Rule) (command : Command) → try_rules extended words fault rules ≡ Ok command → ReadBy extended words rules command
+pub read_found : (extended : Bool) (words : List (List ℕ)) (fault : Option WordFault) (rules : List Rule) (command : Command) →
+    try_rules extended words fault rules ≡ Ok command → ReadBy extended words rules command
 read_found extended words fault [] command e = absurd (cc)
 read_found extended words fault (rule ∷ rules) command e =
     read_step extended words fault rule rules command (λ first. read_found extended words first rules command) e (matches words rule) (read extended words rule) refl refl
@@ -82,7 +86,8 @@ abbrev pub FirstFault : Bool → List (List ℕ) → Option WordFault → List R
 FirstFault extended words (Some first) rules fault = fault ≡ first
 FirstFault extended words None rules fault = (UnknownBy words rules × (fault ≡ faults.Unknown)) ⊎ FaultyBy extended words rules fault
 
-later_fault : (extended : Bool) (words : List (List ℕ)) (first : Option WordFault) (rule : Rule) (rules : List Rule) (fault : WordFault) → matches words rule ≡ false → FirstFault extended words first rules fault → FirstFault extended words first (rule ∷ rules) fault
+later_fault : (extended : Bool) (words : List (List ℕ)) (first : Option WordFault) (rule : Rule) (rules : List Rule) (fault : WordFault) →
+    matches words rule ≡ false → FirstFault extended words first rules fault → FirstFault extended words first (rule ∷ rules) fault
 later_fault extended words (Some other) rule rules fault e is = is
 later_fault extended words None rule rules fault e (inl none) = inl (passes_not (matches words) rule rules e ∙ none.0, none.1)
 later_fault extended words None rule rules fault e (inr faulty) = inr (record {
@@ -92,7 +97,8 @@ later_fault extended words None rule rules fault e (inr faulty) = inr (record {
   faulty = faulty.faulty;
 })
 
-here_fault : (extended : Bool) (words : List (List ℕ)) (first : Option WordFault) (rule : Rule) (rules : List Rule) (other fault : WordFault) → matches words rule ≡ true → read extended words rule ≡ Err other →
+here_fault : (extended : Bool) (words : List (List ℕ)) (first : Option WordFault) (rule : Rule) (rules : List Rule) (other fault : WordFault) →
+    matches words rule ≡ true → read extended words rule ≡ Err other →
     find (completes extended words) rules ≡ None → fault ≡ unwrap_or first other → FirstFault extended words first (rule ∷ rules) fault
 here_fault extended words (Some before) rule rules other fault fits is none same = same
 here_fault extended words None rule rules other fault fits is none same = inr (record {
@@ -118,13 +124,15 @@ fault_step extended words first rule rules fault later e true (Err other) fits i
     let rest = later (Some (unwrap_or first other)) (sym (tried extended words first rule rules (Err other) fits is) ∙ e) in
     (passes_not (completes extended words) rule rules (partly extended words rule other fits is) ∙ rest.0, here_fault extended words first rule rules other fault fits is rest.0 rest.1)
 
-pub fault_found : (extended : Bool) (words : List (List ℕ)) (first : Option WordFault) (rules : List Rule) (fault : WordFault) → try_rules extended words first rules ≡ Err fault → Fails extended words first rules fault
+pub fault_found : (extended : Bool) (words : List (List ℕ)) (first : Option WordFault) (rules : List Rule) (fault : WordFault) →
+    try_rules extended words first rules ≡ Err fault → Fails extended words first rules fault
 fault_found extended words (Some before) [] fault e = (refl, (cc))
 fault_found extended words None [] fault e = (refl, inl (refl, (cc)))
 fault_found extended words first (rule ∷ rules) fault e =
     fault_step extended words first rule rules fault (λ before. fault_found extended words before rules fault) e (matches words rule) (read extended words rule) refl refl
 
-known_fault : (extended : Bool) (words : List (List ℕ)) (rules : List Rule) (fault : WordFault) → (fault ≡ faults.Unknown → ⊥) → FirstFault extended words None rules fault → FaultyBy extended words rules fault
+known_fault : (extended : Bool) (words : List (List ℕ)) (rules : List Rule) (fault : WordFault) → (fault ≡ faults.Unknown → ⊥) →
+    FirstFault extended words None rules fault → FaultyBy extended words rules fault
 known_fault extended words rules fault other (inl none) = absurd (other none.1)
 known_fault extended words rules fault other (inr faulty) = faulty
 
@@ -136,8 +144,10 @@ no_fault extended words rules (inr faulty) = absurd (true≢false (sym (read-fau
 pub answered : (extended : Bool) (words : List (List ℕ)) (rules : List Rule) (result : Result Command WordFault) → try_rules extended words None rules ≡ result → AnswerBy extended words rules result
 answered extended words rules (Ok command) e = read_found extended words None rules command e
 answered extended words rules (Err faults.Unknown) e = no_fault extended words rules (fault_found extended words None rules faults.Unknown e).1
-answered extended words rules (Err (faults.BadWord place)) e = known_fault extended words rules (faults.BadWord place) (λ same. absurd (cc)) (fault_found extended words None rules (faults.BadWord place) e).1
-answered extended words rules (Err faults.WildcardNotPrefix) e = known_fault extended words rules faults.WildcardNotPrefix (λ same. absurd (cc)) (fault_found extended words None rules faults.WildcardNotPrefix e).1
+answered extended words rules (Err (faults.BadWord place)) e =
+    known_fault extended words rules (faults.BadWord place) (λ same. absurd (cc)) (fault_found extended words None rules (faults.BadWord place) e).1
+answered extended words rules (Err faults.WildcardNotPrefix) e =
+    known_fault extended words rules faults.WildcardNotPrefix (λ same. absurd (cc)) (fault_found extended words None rules faults.WildcardNotPrefix e).1
 answered extended words rules (Err faults.Memory) e = tt
 
 -- and never that memory is wanting
@@ -147,7 +157,8 @@ no_memory extended words rules e =
     true≢false (sym (read-fault extended words faulty.rule faults.Memory faulty.faulty))
 
 -- rows that say the same of the words have the same answer
-same_fault : (extended : Bool) (words : List (List ℕ)) (rules others : List Rule) (fault : WordFault) → SaysTheSame words rules others → FaultyBy extended words rules fault → FaultyBy extended words others fault
+same_fault : (extended : Bool) (words : List (List ℕ)) (rules others : List Rule) (fault : WordFault) → SaysTheSame words rules others →
+    FaultyBy extended words rules fault → FaultyBy extended words others fault
 same_fault extended words rules others fault same is = record {
   rule = is.rule;
   none = sym (same.completing extended) ∙ is.none;
@@ -155,7 +166,8 @@ same_fault extended words rules others fault same is = record {
   faulty = is.faulty;
 }
 
-pub same_answer : (extended : Bool) (words : List (List ℕ)) (rules others : List Rule) (result : Result Command WordFault) → SaysTheSame words rules others → AnswerBy extended words rules result → AnswerBy extended words others result
+pub same_answer : (extended : Bool) (words : List (List ℕ)) (rules others : List Rule) (result : Result Command WordFault) → SaysTheSame words rules others →
+    AnswerBy extended words rules result → AnswerBy extended words others result
 same_answer extended words rules others (Ok command) same is = record {
   rule = is.rule;
   values = is.values;
@@ -169,7 +181,8 @@ same_answer extended words rules others (Err faults.WildcardNotPrefix) same is =
 same_answer extended words rules others (Err faults.Memory) same is = tt
 
 -- an answer by the rows of a block is the line's answer there
-pub is_answer : (text : List ℕ) (line : Line) (within : BlockKind) (result : Result Command WordFault) → AnswerBy (is_extended_block within) (line_words text line) (rows within) result → IsAnswer text line within result
+pub is_answer : (text : List ℕ) (line : Line) (within : BlockKind) (result : Result Command WordFault) →
+    AnswerBy (is_extended_block within) (line_words text line) (rows within) result → IsAnswer text line within result
 is_answer text line within (Ok command) is = is
 is_answer text line within (Err faults.Unknown) is = is
 is_answer text line within (Err (faults.BadWord place)) is = is
@@ -178,7 +191,8 @@ is_answer text line within (Err faults.Memory) is = tt
 
 -- what the rows that may match are found to say is the line's answer
 pub line_answered : (text : List ℕ) (line : Line) (within : BlockKind) (extended : Bool) (words : List (List ℕ)) (rules : List Rule) (result : Result Command WordFault) →
-    (result ≡ Err faults.Memory) ⊎ (result ≡ try_rules extended words None rules) → extended ≡ is_extended_block within → words ≡ line_words text line → SaysTheSame words rules (rows within) → IsAnswer text line within result
+    (result ≡ Err faults.Memory) ⊎ (result ≡ try_rules extended words None rules) → extended ≡ is_extended_block within → words ≡ line_words text line →
+    SaysTheSame words rules (rows within) → IsAnswer text line within result
 line_answered text line within extended words rules result (inl none) at cut same = let P : Result Command WordFault → Type 0 = λ r. IsAnswer text line within r in subst P (sym none) tt
 line_answered text line within extended words rules result (inr is) at cut same =
     let P : Bool → Type 0 = λ e. AnswerBy e (line_words text line) (rows within) result in

@@ -51,7 +51,8 @@ at_zero Zero bs h t ih = rw (filled 48 h) refl
 at_zero Digit bs h t ih = ih Digit
 
 -- at another byte
-at_other : (before : Before) (b : ℕ) (bs h : List ℕ) (t : List (List ℕ)) → (b == 47) ≡ false → (b == 48) ≡ false → ((s : Before) → complete s bs ≡ goes_on s (h ∷ t)) → (digit : Bool) → is_ascii_digit b ≡ digit →
+at_other : (before : Before) (b : ℕ) (bs h : List ℕ) (t : List (List ℕ)) → (b == 47) ≡ false → (b == 48) ≡ false →
+    ((s : Before) → complete s bs ≡ goes_on s (h ∷ t)) → (digit : Bool) → is_ascii_digit b ≡ digit →
     complete before (b ∷ bs) ≡ goes_on before (parts b (h ∷ t))
 at_other Start b bs h t slash zero' ih true d = rw (slash, zero', d) (ih Digit ∙ ap (λ a. a && list_all is_numeral t) (sym (and-true (list_all is_ascii_digit h))))
 at_other Start b bs h t slash zero' ih false d = rw (slash, zero', d) refl

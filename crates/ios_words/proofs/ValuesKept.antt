@@ -11,7 +11,8 @@ use Rattle.ios_words.specs.declared.rows.Form.TheVariants as forms
 use Rattle.arc_base.specs.PrefixText.{address_of}
 use Rattle.ios_words.specs.Numbers.{ranged, number_in, wildcard_length}
 use Rattle.ios_words.specs.Prefixes.{holding}
-use Rattle.ios_words.specs.Readings.{State, begins, after_word, next_word, place, this_word, permits, verdict, passed, then_do, stands_alone, alone, any, width, side, as_source, ports, step, read_parts, finish_words, finish}
+use Rattle.ios_words.specs.Readings.{State, begins, after_word, next_word, place, this_word, permits, verdict, passed, then_do}
+use Rattle.ios_words.specs.Readings.{stands_alone, alone, any, width, side, as_source, ports, step, read_parts, finish_words, finish}
 use Rattle.ios_words.specs.Rows.{Piece, Word, Verdict, Place, Bracket, Flag, Protocol, Source, Destination, Ports}
 use Rattle.ios_words.specs.ServiceRanges.{services_of}
 use Rattle.ios_words.specs.Services.{protocol, port, has_ports}
@@ -59,7 +60,8 @@ after-kept : (o : Change) (taken : ℕ) (words : List (List ℕ)) (r r' : Result
 after-kept o taken words (Ok v) r' is = ap (after_word taken words) is
 after-kept o taken words (Err f) r' is = ap (after_word taken words) is
 
-next-kept : (o : Change) (give more : List ℕ → Result Values Flaw) (taken : ℕ) (words : List (List ℕ)) → ((w : List ℕ) → more w ≡ map_values o (give w)) → next_word more taken words ≡ map_state o (next_word give taken words)
+next-kept : (o : Change) (give more : List ℕ → Result Values Flaw) (taken : ℕ) (words : List (List ℕ)) → ((w : List ℕ) → more w ≡ map_values o (give w)) →
+    next_word more taken words ≡ map_state o (next_word give taken words)
 next-kept o give more taken [] same = refl
 next-kept o give more taken (w ∷ words) same = after-kept o (taken + 1) words (give w) (more w) (same w)
 
@@ -71,23 +73,28 @@ result-kept : {A : Type 0} → (o : Change) (set more : A → Values) (a : Resul
 result-kept o set more (Err f) same = refl
 result-kept o set more (Ok x) same = ap Ok (same x)
 
-then-kept : (o : Change) (next : State → Result State WordFault) (r r' : Result State WordFault) → r' ≡ map_state o r → ((s : State) → next (change o s) ≡ map_state o (next s)) → then_do next r' ≡ map_state o (then_do next r)
+then-kept : (o : Change) (next : State → Result State WordFault) (r r' : Result State WordFault) → r' ≡ map_state o r →
+    ((s : State) → next (change o s) ≡ map_state o (next s)) → then_do next r' ≡ map_state o (then_do next r)
 then-kept o next (Ok s) r' is same = ap (then_do next) is ∙ same s
 then-kept o next (Err f) r' is same = ap (then_do next) is
 
 address-kept : (o : Change) (s : State) → place Address (change o s) ≡ map_state o (place Address s)
-address-kept o s = next-kept o (values_with Address s.values) (values_with Address (changed o s.values)) s.taken s.words (λ w. value-kept o (λ a. record s.values { address = a }) (λ a. record (changed o s.values) { address = a }) (address_of w) (λ a. refl))
+address-kept o s = next-kept o (values_with Address s.values) (values_with Address (changed o s.values)) s.taken s.words
+    (λ w. value-kept o (λ a. record s.values { address = a }) (λ a. record (changed o s.values) { address = a }) (address_of w) (λ a. refl))
 
 host-kept : (o : Change) (s : State) → place Host (change o s) ≡ map_state o (place Host s)
-host-kept o s = next-kept o (values_with Host s.values) (values_with Host (changed o s.values)) s.taken s.words (λ w. value-kept o (λ a. record s.values { address = a; to = holding a 32 }) (λ a. record (changed o s.values) { address = a; to = holding a 32 }) (address_of w) (λ a. refl))
+host-kept o s = next-kept o (values_with Host s.values) (values_with Host (changed o s.values)) s.taken s.words
+    (λ w. value-kept o (λ a. record s.values { address = a; to = holding a 32 }) (λ a. record (changed o s.values) { address = a; to = holding a 32 }) (address_of w) (λ a. refl))
 
 wildcard-kept : (o : Change) (s : State) → place Wildcard (change o s) ≡ map_state o (place Wildcard s)
 wildcard-kept o s = next-kept o (values_with Wildcard s.values) (values_with Wildcard (changed o s.values)) s.taken s.words
-    (λ w. result-kept o (λ l. record s.values { length = l; to = holding s.values.address l }) (λ l. record (changed o s.values) { length = l; to = holding s.values.address l }) (wildcard_length w) (λ l. refl))
+    (λ w. result-kept o (λ l. record s.values { length = l; to = holding s.values.address l }) (λ l. record (changed o s.values) { length = l; to = holding s.values.address l })
+    (wildcard_length w) (λ l. refl))
 
 route-kept : (o : Change) (s : State) → place Route (change o s) ≡ map_state o (place Route s)
 route-kept o s = next-kept o (values_with Route s.values) (values_with Route (changed o s.values)) s.taken s.words
-    (λ w. value-kept o (λ r. record s.values { to = holding r.0 r.1; low = r.1; high = r.1 }) (λ r. record (changed o s.values) { to = holding r.0 r.1; low = r.1; high = r.1 }) (route_of w) (λ r. refl))
+    (λ w. value-kept o (λ r. record s.values { to = holding r.0 r.1; low = r.1; high = r.1 }) (λ r. record (changed o s.values) { to = holding r.0 r.1; low = r.1; high = r.1 })
+    (route_of w) (λ r. refl))
 
 least-kept : (o : Change) (s : State) → place AtLeast (change o s) ≡ map_state o (place AtLeast s)
 least-kept o s = next-kept o (values_with AtLeast s.values) (values_with AtLeast (changed o s.values)) s.taken s.words
@@ -99,7 +106,8 @@ most-kept o s = next-kept o (values_with AtMost s.values) (values_with AtMost (c
 
 order-kept : (o : Change) (high : ℕ) (s : State) → o.leaves ≡ true → place (Order high) (change o s) ≡ map_state o (place (Order high) s)
 order-kept o high s is = next-kept o (values_with (Order high) s.values) (values_with (Order high) (changed o s.values)) s.taken s.words
-    (λ w. value-kept o (λ n. record s.values { order = Some n }) (λ n. record (changed o s.values) { order = Some n }) (number_in 1 high w) (λ n. ap (λ m. record (changed o s.values) { order = m }) (sym (o.left is n))))
+    (λ w. value-kept o (λ n. record s.values { order = Some n }) (λ n. record (changed o s.values) { order = Some n }) (number_in 1 high w)
+    (λ n. ap (λ m. record (changed o s.values) { order = m }) (sym (o.left is n))))
 
 protocol-kept : (o : Change) (s : State) → place forms.Protocol (change o s) ≡ map_state o (place forms.Protocol s)
 protocol-kept o s = next-kept o (values_with forms.Protocol s.values) (values_with forms.Protocol (changed o s.values)) s.taken s.words
@@ -115,7 +123,8 @@ first_port-kept o s = next-kept o (values_with FirstPort s.values) (values_with 
 
 last_port-kept : (o : Change) (s : State) → place LastPort (change o s) ≡ map_state o (place LastPort s)
 last_port-kept o s = next-kept o (values_with LastPort s.values) (values_with LastPort (changed o s.values)) s.taken s.words
-    (λ w. value-kept o (λ n. with_ports s.values (port s.values.services.low) n) (λ n. with_ports (changed o s.values) (port s.values.services.low) n) (ranged (port s.values.services.low) 65535 (port_in s.values w)) (λ n. refl))
+    (λ w. value-kept o (λ n. with_ports s.values (port s.values.services.low) n) (λ n. with_ports (changed o s.values) (port s.values.services.low) n)
+    (ranged (port s.values.services.low) 65535 (port_in s.values w)) (λ n. refl))
 
 ports-kept : (o : Change) (s : State) → ports (change o s) ≡ map_state o (ports s)
 ports-kept o s = cond-state o (begins (codes "eq") s.words) (place Port (passed s)) _ _ _ (port-kept o (passed s))
@@ -123,7 +132,8 @@ ports-kept o s = cond-state o (begins (codes "eq") s.words) (place Port (passed 
     (then-kept o (place LastPort) (place FirstPort (passed s)) (place FirstPort (passed (change o s))) (first_port-kept o (passed s)) (last_port-kept o)) refl)
 
 word-kept : (o : Change) (word : List ℕ) (s : State) → this_word word (change o s) ≡ map_state o (this_word word s)
-word-kept o word s = next-kept o (λ w. cond (bytes_eq w word) (Ok s.values) (Err Amiss)) (λ w. cond (bytes_eq w word) (Ok (changed o s.values)) (Err Amiss)) s.taken s.words (λ w. cond-values o (bytes_eq w word) (Ok s.values) (Err Amiss) _ _ refl refl)
+word-kept o word s = next-kept o (λ w. cond (bytes_eq w word) (Ok s.values) (Err Amiss)) (λ w. cond (bytes_eq w word) (Ok (changed o s.values)) (Err Amiss)) s.taken s.words
+    (λ w. cond-values o (bytes_eq w word) (Ok s.values) (Err Amiss) _ _ refl refl)
 
 verdict-kept : (o : Change) (s : State) → verdict (change o s) ≡ map_state o (verdict s)
 verdict-kept o s = next-kept o (permits s.values) (permits (changed o s.values)) s.taken s.words

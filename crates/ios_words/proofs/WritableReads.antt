@@ -1,5 +1,6 @@
 -- The services of an entry that is read are all, or those of one protocol, or ports of TCP or of UDP: each part of a row leaves them so.
-use Rattle.std.proofs.Common.{◌≡◌, ℕ, ◌+◌, ◌*◌, ◌/◌, ◌%◌, ◌≤◌, ◌==◌, ◌&&◌, ◌||◌, not, nat_le, Bool, true, false, cond, List, [], ◌∷◌, Option, Some, None, Result, Ok, Err, refl, sym, ap, subst, ◌∙◌, arith, codes, find}
+use Rattle.std.proofs.Common.{◌≡◌, ℕ, ◌+◌, ◌*◌, ◌/◌, ◌%◌, ◌≤◌, ◌==◌, ◌&&◌, ◌||◌, not, nat_le, Bool, true, false, cond}
+use Rattle.std.proofs.Common.{List, [], ◌∷◌, Option, Some, None, Result, Ok, Err, refl, sym, ap, subst, ◌∙◌, arith, codes, find}
 use Rattle.std.proofs.lemmas.Bool.{and_parts, and_from, eq-eqb, eqb-true, le-leb, leb-true}
 use Rattle.std.proofs.lemmas.Nat.{div-add-mod', div-mul-add}
 use Rattle.std.specs.List.{list_all}
@@ -24,7 +25,8 @@ use Rattle.ios_words.specs.Names.{is_face_name}
 use Rattle.ios_words.specs.Numbers.{area_of, is_from, list_kind, mask_length, number_in, ranged, wildcard_length}
 use Rattle.arc_base.specs.PrefixText.{address_of}
 use Rattle.ios_words.specs.Prefixes.{holding, whole}
-use Rattle.ios_words.specs.Readings.{State, after_word, alone, any, as_source, begins, begins_entry, finish, finish_words, next_word, passed, permits, place, ports, read, read_parts, side, stands_alone, start, step, then_do, width}
+use Rattle.ios_words.specs.Readings.{State, after_word, alone, any, as_source, begins, begins_entry, finish, finish_words, next_word, passed}
+use Rattle.ios_words.specs.Readings.{permits, place, ports, read, read_parts, side, stands_alone, start, step, then_do, width}
 use Rattle.ios_words.specs.Rows.{Anything, Bracket, Destination, EntryNumber, Flag, Piece, Place, Ports, Protocol, Rule, Source, Verdict, Word}
 use Rattle.ios_words.specs.ServiceRanges.{all, of_ports, of_protocol, services_of}
 use Rattle.ios_words.specs.Services.{are_all_ports, are_writable, has_ports, number_named, port, port_names, port_of, protocol, protocol_names, protocol_of, tcp_ports, udp_ports}
@@ -108,7 +110,8 @@ abbrev is_inside : ℕ → ℕ → ℕ × List ℕ → Bool
 is_inside low high row = nat_le low row.0 && nat_le row.0 high
 
 -- a number beside a name is in the range of the table
-named-in : (low high : ℕ) (rows : List (ℕ × List ℕ)) (word : List ℕ) (other : Option ℕ) (n : ℕ) → list_all (is_inside low high) rows ≡ true → option_or (number_named rows word) (ranged low high other) ≡ Some n → (low ≤ n) × (n ≤ high)
+named-in : (low high : ℕ) (rows : List (ℕ × List ℕ)) (word : List ℕ) (other : Option ℕ) (n : ℕ) → list_all (is_inside low high) rows ≡ true →
+    option_or (number_named rows word) (ranged low high other) ≡ Some n → (low ≤ n) × (n ≤ high)
 named-in low high rows word other n inside e = by (find (λ row. bytes_eq word row.1) rows) refl e
   where
     by : (o : Option (ℕ × List ℕ)) → find (λ row. bytes_eq word row.1) rows ≡ o → option_or (option_map (λ row. row.0) o) (ranged low high other) ≡ Some n → (low ≤ n) × (n ≤ high)
@@ -167,7 +170,8 @@ after-says : (P : Values → Type 0) (taken : ℕ) (words : List (List ℕ)) (r 
 after-says P taken words (Ok v) t h e = let same : record { taken = taken; words = words; values = v } ≡ t = cc in subst (λ (x : State). P x.values) same (h v refl)
 after-says P taken words (Err flaw) t h e = absurd cc
 
-next-says : (P : Values → Type 0) (given : List ℕ → Result Values Flaw) (taken : ℕ) (words : List (List ℕ)) (t : State) → ((w : List ℕ) (v : Values) → given w ≡ Ok v → P v) → next_word given taken words ≡ Ok t → P t.values
+next-says : (P : Values → Type 0) (given : List ℕ → Result Values Flaw) (taken : ℕ) (words : List (List ℕ)) (t : State) →
+    ((w : List ℕ) (v : Values) → given w ≡ Ok v → P v) → next_word given taken words ≡ Ok t → P t.values
 next-says P given taken [] t h e = absurd cc
 next-says P given taken (w ∷ words) t h e = after-says P (taken + 1) words (given w) t (h w) e
 
@@ -199,7 +203,8 @@ side-says : (extended : Bool) (s t : State) → Says s.values → side extended 
 side-says extended s t h e = if-states (begins (codes "any") s.words) _ _ t (λ is. ok-state (any s) t h)
     (if-states (begins (codes "host") s.words) _ _ t (λ is. place-says forms.Host (passed s) t refl h)
     (then-says (λ x. Says x.values) (width extended) (place forms.Address s) t
-    (λ m at. if-states (not extended && stands_alone m.words) _ _ t (λ is. ok-state (alone m) t (place-says forms.Address s m refl h at)) (place-says forms.Wildcard m t refl (place-says forms.Address s m refl h at))))) e
+    (λ m at. if-states (not extended && stands_alone m.words) _ _ t (λ is. ok-state (alone m) t (place-says forms.Address s m refl h at))
+    (place-says forms.Wildcard m t refl (place-says forms.Address s m refl h at))))) e
 
 -- a protocol that has ports is one
 has-range : (n : ℕ) → has_ports n ≡ true → (1 ≤ n) × (n ≤ 255)
@@ -245,9 +250,11 @@ keeps (Bracket word form) = leaves form
 keeps _ = true
 
 step-says : (piece : Piece) (s t : State) → keeps piece ≡ true → Says s.values → step piece s ≡ Ok t → Says t.values
-step-says (Word word) s t is h e = next-says Says (λ w. cond (bytes_eq w word) (Ok s.values) (Err Amiss)) s.taken s.words t (λ w v. if-values (bytes_eq w word) _ _ v (ok-values s.values v h) (no-values v)) e
+step-says (Word word) s t is h e = next-says Says (λ w. cond (bytes_eq w word) (Ok s.values) (Err Amiss)) s.taken s.words t
+    (λ w v. if-values (bytes_eq w word) _ _ v (ok-values s.values v h) (no-values v)) e
 step-says Verdict s t is h e = next-says Says (permits s.values) s.taken s.words t
-    (λ w v. if-values (bytes_eq w (codes "permit")) _ _ v (ok-values (record s.values { permit = true }) v h) (if-values (bytes_eq w (codes "deny")) _ _ v (ok-values (record s.values { permit = false }) v h) (no-values v))) e
+    (λ w v. if-values (bytes_eq w (codes "permit")) _ _ v (ok-values (record s.values { permit = true }) v h)
+    (if-values (bytes_eq w (codes "deny")) _ _ v (ok-values (record s.values { permit = false }) v h) (no-values v))) e
 step-says (Place form) s t is h e = place-says form s t is h e
 step-says (Bracket word form) s t is h e = if-states (begins word s.words) _ _ t (λ at. place-says form (passed s) t is h) (ok-state s t h) e
 step-says (Flag word) s t is h e = if-states (begins word s.words) _ _ t (λ at. ok-state (passed s) t h) (ok-state s t h) e

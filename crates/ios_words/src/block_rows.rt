@@ -1,7 +1,7 @@
 //! The rows of lines of processes, of lists and of inert blocks.
-ghost use Rattle.std.specs.Prelude.{◌≡◌, IsTrue, map};
-ghost use Rattle.std.specs.List.{list_all};
 ghost use Rattle.ios_words.specs.Language.{rows};
+ghost use Rattle.std.specs.List.{list_all};
+ghost use Rattle.std.specs.Prelude.{◌≡◌, IsTrue, map};
 ghost use Rattle.ios_words.specs.declared.kinds.BlockKind.TheVariants as blocks;
 ghost use Rattle.ios_words.specs.Rows.{rule_of};
 ghost use Rattle.ios_words.specs.Trials.{is_short};

@@ -36,9 +36,9 @@ pub(crate) struct Found<'a> {
 }
 
 impl<'a> Found<'a> {
-    ghost use Rattle.std.specs.Prelude.{◌≡◌, ◌≤◌, IfOk};
     ghost use Rattle.ios_words.specs.FoundValues.{values_of, word_values};
     ghost use Rattle.ios_words.specs.Values.{values_with, with_length, with_ports, no_values};
+    ghost use Rattle.std.specs.Prelude.{◌≡◌, ◌≤◌, IfOk};
 
     /// What is known before the first word: whether the line is in the block of an extended list.
     pub(crate) fn nothing(extended: bool) -> Found<'a>

@@ -1,8 +1,8 @@
 //! The rows of lines of an interface, by their first letters.
-ghost use Rattle.std.specs.Prelude.{◌≡◌, IsTrue, filter, map};
-ghost use Rattle.std.specs.List.{list_all};
 ghost use Rattle.ios_words.specs.Candidates.{has_letter, follows_ip};
 ghost use Rattle.ios_words.specs.Language.{rows};
+ghost use Rattle.std.specs.List.{list_all};
+ghost use Rattle.std.specs.Prelude.{◌≡◌, IsTrue, filter, map};
 ghost use Rattle.ios_words.specs.declared.kinds.BlockKind.TheVariants as blocks;
 ghost use Rattle.ios_words.specs.Rows.{rule_of};
 ghost use Rattle.ios_words.specs.Trials.{is_short};

@@ -1,11 +1,11 @@
 //! A line is read by the rows of its block.
-ghost use Rattle.std.specs.Prelude.{◌≡◌, IsTrue, map};
-ghost use Rattle.std.specs.List.{list_all};
 ghost use Rattle.ios_words.specs.Commands.{HasWordsIn, IsAnswer, is_extended_block};
 ghost use Rattle.ios_words.specs.Language.{rows};
 ghost use Rattle.ios_words.specs.Rows.{rule_of};
 ghost use Rattle.ios_words.specs.Trials.{is_short, SaysTheSame};
 ghost use Rattle.ios_words.specs.Views.{words_of};
+ghost use Rattle.std.specs.List.{list_all};
+ghost use Rattle.std.specs.Prelude.{◌≡◌, IsTrue, map};
 
 use crate::block_rows::{bgp_rows, extended_rows, inert_block_rows, ospf_rows, standard_rows};
 use crate::commands::Command;

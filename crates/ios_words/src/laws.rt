@@ -1,16 +1,16 @@
 //! Laws over the definitions alone: each is the contract of a function that does nothing.
-ghost use Rattle.ios_words.specs.Returns.{ReturnsSayNothing, HeadsHaveNoReturn};
 ghost use Rattle.ios_words.specs.Forms.{CommandsAreInForm, AllAddressesFit};
-ghost use Rattle.std.specs.Prelude.{codes};
+ghost use Rattle.ios_words.specs.Laws.{HeadsAreTopLines, AnswersAreOne, UnknownMatchesNone};
+ghost use Rattle.ios_words.specs.Laws.{InertCounts};
+ghost use Rattle.ios_words.specs.ListLines.{ListLinesAreTopLines, PrefixListsHaveOtherNames};
 ghost use Rattle.ios_words.specs.Names.{NamesHaveTheirForm};
 ghost use Rattle.ios_words.specs.Plain.{PlainLinesAreRead};
 ghost use Rattle.ios_words.specs.Printed.{IsClosingLine};
 ghost use Rattle.ios_words.specs.Renumbered.{EntriesMayBeRenumbered, PrefixLinesMayBeRenumbered};
 ghost use Rattle.ios_words.specs.Renumbered.{NumberedLinesHaveSequences};
-ghost use Rattle.ios_words.specs.ListLines.{ListLinesAreTopLines, PrefixListsHaveOtherNames};
-ghost use Rattle.ios_words.specs.Laws.{HeadsAreTopLines, AnswersAreOne, UnknownMatchesNone};
-ghost use Rattle.ios_words.specs.Laws.{InertCounts};
+ghost use Rattle.ios_words.specs.Returns.{ReturnsSayNothing, HeadsHaveNoReturn};
 ghost use Rattle.ios_words.specs.Writable.{ReadEntriesAreWritable};
+ghost use Rattle.std.specs.Prelude.{codes};
 
 /// A line reads as one command, or is unknown, or has one faulty word.
 pub fn a_line_has_one_answer()

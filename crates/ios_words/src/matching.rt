@@ -1,9 +1,9 @@
 //! Whether a row matches the words of a line: whether the line has its fixed words where the row
 //! has them.
-ghost use Rattle.std.specs.Prelude.{◌≡◌, map, option_map};
 ghost use Rattle.ios_words.specs.Readings.{after, match_words};
 ghost use Rattle.ios_words.specs.Rows.{piece_of};
 ghost use Rattle.ios_words.specs.Views.{words_of};
+ghost use Rattle.std.specs.Prelude.{◌≡◌, map, option_map};
 
 use crate::rows::Part;
 use crate::words::Words;

@@ -1,7 +1,7 @@
 //! What a row says of the values of its places.
-ghost use Rattle.std.specs.Prelude.{◌≡◌, IfOk};
 ghost use Rattle.ios_words.specs.FoundValues.{values_of};
 ghost use Rattle.ios_words.specs.Meanings.{give, packet, route, area};
+ghost use Rattle.std.specs.Prelude.{◌≡◌, IfOk};
 
 use crate::commands::{AreaText, Command, PacketText, RouteText};
 use crate::found::Found;

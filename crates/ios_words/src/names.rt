@@ -1,10 +1,10 @@
 //! Names as router files write them.
-ghost use Rattle.std.specs.Prelude.{◌≡◌};
+ghost use Rattle.arc_base.specs.NameForms.{face_kinds};
+ghost use Rattle.ios_words.specs.Names.{is_unit, is_of_kind, is_face_name};
+ghost use Rattle.ios_words.specs.Units.{next, ends};
 ghost use Rattle.std.specs.Char.{is_ascii_digit};
 ghost use Rattle.std.specs.List.{list_any};
-ghost use Rattle.ios_words.specs.Names.{is_unit, is_of_kind, is_face_name};
-ghost use Rattle.arc_base.specs.NameForms.{face_kinds};
-ghost use Rattle.ios_words.specs.Units.{next, ends};
+ghost use Rattle.std.specs.Prelude.{◌≡◌};
 
 use arc_base::limits::NAME_LIMIT;
 

@@ -1,9 +1,9 @@
 //! Numbers, masks and areas as router files write them.
-ghost use Rattle.std.specs.Prelude.{◌≡◌, ◌-◌, ◌/◌, ◌^◌, ◌<◌, ◌≤◌, IfSome, IfOk};
 ghost use Rattle.arc_base.specs.PrefixText.{number_of};
 ghost use Rattle.ios_words.specs.Numbers.{is_from, number_in, mask_ones, length_from, mask_length};
 ghost use Rattle.ios_words.specs.Numbers.{wildcard_length, area_of, class_length, is_standard};
 ghost use Rattle.ios_words.specs.Numbers.{is_extended, list_kind};
+ghost use Rattle.std.specs.Prelude.{◌≡◌, ◌-◌, ◌<◌, ◌≤◌, IfSome, IfOk};
 
 use crate::kinds::Flaw;
 use arc_base::{read_address, read_number};

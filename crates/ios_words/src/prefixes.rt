@@ -1,7 +1,7 @@
 //! Prefixes as router files write them: an address, and how long the prefix is that holds it.
-ghost use Rattle.std.specs.Prelude.{◌≡◌, ◌-◌, ◌≤◌, IfSome};
 ghost use Rattle.ios_words.specs.Prefixes.{cleared, holding, whole};
 ghost use Rattle.ios_words.specs.Values.{route_of, both, class_prefix};
+ghost use Rattle.std.specs.Prelude.{◌≡◌, ◌-◌, ◌≤◌, IfSome};
 
 use crate::numbers::{class_length, number_in};
 use arc_base::{Prefix, cut_at, read_address};

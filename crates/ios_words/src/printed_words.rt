@@ -1,6 +1,4 @@
 //! The words of lines, appended to a text.
-ghost use Rattle.std.specs.Prelude.{◌≡◌, ◌≤◌, ◌-◌, ◌^◌, ◌∷◌, ◌++◌, [], map, Some, OnOk};
-ghost use Rattle.std.specs.Prelude.{if◌then◌else◌};
 ghost use Rattle.ios_lines.specs.Written.{spaced};
 ghost use Rattle.ios_words.specs.Numbers.{mask};
 ghost use Rattle.ios_words.specs.Printed.{unless, verdict_word, side_words, packet_words};
@@ -9,6 +7,8 @@ ghost use Rattle.ios_words.specs.Printed.{length_words, route_words};
 ghost use Rattle.ios_words.specs.Services.{are_all, are_all_ports, protocol_text, protocol_word};
 ghost use Rattle.ios_words.specs.Services.{port_words};
 ghost use Rattle.ios_words.specs.Views.{text_of};
+ghost use Rattle.std.specs.Prelude.{◌≡◌, ◌≤◌, ◌-◌, ◌^◌, ◌∷◌, ◌++◌, [], map, Some, OnOk};
+ghost use Rattle.std.specs.Prelude.{if◌then◌else◌};
 
 use crate::commands::{PacketText, RouteText};
 use crate::printed_words::Word::{Address, Number, Route, Text};

@@ -1,7 +1,7 @@
 //! The plain line of each command, appended to a text without its line end. A line of a block
 //! begins with one space.
-ghost use Rattle.std.specs.Prelude.{◌≡◌, ◌++◌, OnOk};
 ghost use Rattle.ios_words.specs.declared.commands.Command.TheVariants.{ListLine, PrefixLine};
+ghost use Rattle.std.specs.Prelude.{◌≡◌, ◌++◌, OnOk};
 ghost use Rattle.ios_words.specs.declared.kinds.BlockKind.TheVariants as blocks;
 ghost use Rattle.ios_words.specs.Plain.{plain_line};
 ghost use Rattle.ios_words.specs.Printed.{interface_word};

@@ -1,10 +1,10 @@
 //! Protocols and destination ports as router files write them.
-ghost use Rattle.std.specs.Prelude.{◌≡◌, ◌≤◌, map, IfSome};
-ghost use Rattle.std.specs.Option.{option_map};
 ghost use Rattle.ios_words.specs.NameRows.{row_of, name_at};
 ghost use Rattle.ios_words.specs.ServiceRanges.{services_of};
 ghost use Rattle.ios_words.specs.Services.{protocol_names, port_names, number_named, protocol_of};
 ghost use Rattle.ios_words.specs.Services.{port_of, has_ports};
+ghost use Rattle.std.specs.Option.{option_map};
+ghost use Rattle.std.specs.Prelude.{◌≡◌, ◌≤◌, map, IfSome};
 
 use crate::numbers::number_in;
 use crate::services::Services;

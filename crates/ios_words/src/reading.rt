@@ -1,6 +1,6 @@
 //! What the words of a line give by a row that matches them, or which of them is faulty.
-ghost use Rattle.std.specs.Prelude.{◌≡◌};
 ghost use Rattle.ios_words.specs.Readings.{fault_at};
+ghost use Rattle.std.specs.Prelude.{◌≡◌};
 
 use crate::found::Found;
 use crate::kinds::{Flaw, WordFault};
@@ -21,13 +21,12 @@ pub(crate) struct Reader<'a> {
 }
 
 impl<'a> Reader<'a> {
-    ghost use Rattle.std.specs.Prelude.{◌≡◌, ◌+◌, ◌*◌, ◌^◌, ◌<◌, ◌≤◌, Bool, map, length, codes};
-    ghost use Rattle.std.specs.Prelude.{IfOk};
     ghost use Rattle.ios_words.specs.Readings.{place, this_word, verdict, passed, stands_alone};
     ghost use Rattle.ios_words.specs.Readings.{alone, any, width, side, as_source, step};
     ghost use Rattle.ios_words.specs.Readings.{read_parts, finish, start};
     ghost use Rattle.ios_words.specs.Rows.{Bracket, Flag, Source, Ports, piece_of};
     ghost use Rattle.ios_words.specs.Views.{words_of, state_of, next_state, line_values};
+    ghost use Rattle.std.specs.Prelude.{◌≡◌, ◌+◌, ◌*◌, ◌<◌, ◌≤◌, map, length, IfOk};
 
     /// A line that is to be read in a block, extended or not.
     pub(crate) fn start(words: Words<'a>, extended: bool) -> Reader<'a>

@@ -14,9 +14,9 @@ pub(crate) struct Services {
 }
 
 impl Services {
-    ghost use Rattle.std.specs.Prelude.{◌≡◌, ◌≤◌};
     ghost use Rattle.ios_words.specs.ServiceRanges.{all, of_ports};
     ghost use Rattle.ios_words.specs.Services.{protocol, port};
+    ghost use Rattle.std.specs.Prelude.{◌≡◌, ◌≤◌};
 
     /// All services.
     pub(crate) fn whole() -> Services

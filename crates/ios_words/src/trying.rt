@@ -1,9 +1,9 @@
 //! The rows that may match a line are tried one after another.
-ghost use Rattle.std.specs.Prelude.{◌≡◌, ◌⊎◌, None, Err, IsTrue, map, unwrap_or, length, ◌≤◌};
-ghost use Rattle.std.specs.List.{list_all};
 ghost use Rattle.ios_words.specs.Rows.{rule_of};
 ghost use Rattle.ios_words.specs.Trials.{trial, trial_of, try_rules, is_short};
 ghost use Rattle.ios_words.specs.Views.{words_of};
+ghost use Rattle.std.specs.List.{list_all};
+ghost use Rattle.std.specs.Prelude.{◌≡◌, ◌⊎◌, None, Err, IsTrue, map, unwrap_or, length, ◌≤◌};
 
 use crate::commands::Command;
 use crate::found::Found;

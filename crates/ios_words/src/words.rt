@@ -12,11 +12,11 @@ pub(crate) struct Words<'a> {
 }
 
 impl<'a> Words<'a> {
-    ghost use Rattle.std.specs.Prelude.{◌≡◌, [], ◌∷◌, ◌||◌, drop, MatchOption};
     ghost use Rattle.ios_words.specs.Candidates.{letter};
     ghost use Rattle.ios_words.specs.Readings.{begins, begins_verdict, begins_entry};
     ghost use Rattle.ios_words.specs.Spans.{words_at};
     ghost use Rattle.ios_words.specs.Views.{words_of};
+    ghost use Rattle.std.specs.Prelude.{◌≡◌, [], ◌∷◌, ◌||◌, drop, MatchOption};
 
     /// The words of a text at these spans.
     pub(crate) fn at(text: &'a [u8], spans: &'a [Span]) -> Words<'a>

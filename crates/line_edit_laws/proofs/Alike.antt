@@ -39,7 +39,8 @@ once-alike rename vs cs all once =
     AllPairs-unmap apart (λ (c : FileCommand). c.command) cs
     (subst (λ (l : List Command). AllPairs apart l) (sym (commands-same rename vs cs all)) (AllPairs-map apart (λ (c : FileCommand). c.command) vs once))
 
-named : (o : Option (Given (List ℕ))) → option_map bare_setting (option_map (λ (g : Given (List ℕ)). record { name = g.value; line = g.line }) o) ≡ option_map (λ (g : Given (List ℕ)). record { name = g.value; line = g.line }) (bare_option o)
+named : (o : Option (Given (List ℕ))) → option_map bare_setting (option_map (λ (g : Given (List ℕ)). record { name = g.value; line = g.line }) o) ≡ option_map
+    (λ (g : Given (List ℕ)). record { name = g.value; line = g.line }) (bare_option o)
 named None = refl
 named (Some g) = refl
 
@@ -92,7 +93,8 @@ module _ (rename : Part → Part) (same : (p q : Part) → is_same (rename p) (r
   config-alike vs cs all =
       let name : option_map bare_setting (router_name cs) ≡ option_map bare_setting (router_name vs) =
       named (last_setting hostname cs) ∙
-      ap (option_map (λ (g : Given (List ℕ)). record { name = g.value; line = g.line })) (sym (bare-setting hostname cs) ∙ ap (last_setting hostname) (bares rename vs cs all) ∙ bare-setting hostname vs) ∙
+      ap (option_map (λ (g : Given (List ℕ)). record { name = g.value; line = g.line }))
+      (sym (bare-setting hostname cs) ∙ ap (last_setting hostname) (bares rename vs cs all) ∙ bare-setting hostname vs) ∙
       sym (named (last_setting hostname vs)) in
       let group : bare_groups cs ≡ bare_groups vs = groups-alike vs cs all in
       bare-groups-set cs ∙ (λ i. config_from (name i) (group i)) ∙ sym (bare-groups-set vs)

@@ -1,5 +1,6 @@
 -- Lines with good edits at their commands, one line after another.
-use Rattle.std.proofs.Common.{◌≡◌, ◌≢◌, ℕ, ◌+◌, ◌<◌, ◌≤◌, ◌==◌, ◌⊎◌, inl, inr, Bool, true, false, cond, None, List, [], ◌∷◌, ◌++◌, length, length-append, take, map, refl, sym, ap, subst, ◌∙◌, arith, ⊎_elim, append_assoc, append-nil, Contains, IsTrue, MatchBool}
+use Rattle.std.proofs.Common.{◌≡◌, ◌≢◌, ℕ, ◌+◌, ◌<◌, ◌≤◌, ◌==◌, ◌⊎◌, inl, inr, Bool, true, false, cond, None, List, []}
+use Rattle.std.proofs.Common.{◌∷◌, ◌++◌, length, length-append, take, map, refl, sym, ap, subst, ◌∙◌, arith, ⊎_elim, append_assoc, append-nil, Contains, IsTrue, MatchBool}
 use Rattle.std.specs.List.{AllByRecursion, flat_map}
 use Rattle.std.proofs.lemmas.Bool.{eqb-true, eqb-false}
 use Rattle.std.proofs.Math.Seq.{take-append_seam, drop-append_seam}
@@ -25,7 +26,8 @@ use Rattle.ios_config.proofs.HeadsFirst.{block-low}
 use Rattle.ios_config.proofs.LineLists.{command-spot}
 use Rattle.ios_config.proofs.LinesBefore.{Rising, rising-from, rising-low, rising-lower}
 use Rattle.line_edit_laws.specs.Laws.{EditedLinesAreRead}
-use Rattle.line_edit_laws.specs.Sites.{Written, Chunk, Single as SingleLine, NewBlock, Site, bytes_of, chunk_lines, site_lines, in_block, chunk_commands, says_other, own_commands, site_commands, new_lines, new_commands, IsInnerOf, IsEntryOf, IsBlockLine, IsNewBlock, AreChunks, IsRewrittenFor, IsGood, AreGood}
+use Rattle.line_edit_laws.specs.Sites.{Written, Chunk, Single as SingleLine, NewBlock, Site, bytes_of, chunk_lines, site_lines, in_block, chunk_commands, says_other}
+use Rattle.line_edit_laws.specs.Sites.{own_commands, site_commands, new_lines, new_commands, IsInnerOf, IsEntryOf, IsBlockLine, IsNewBlock, AreChunks, IsRewrittenFor, IsGood, AreGood}
 use Rattle.line_edit_laws.proofs.Alike.{config-alike, once-alike}
 use Rattle.line_edit_laws.proofs.States as states
 use Rattle.line_edit_laws.proofs.States.{State, AreLow, AreHigh, Closes, kept-fixed, kept-key, put-inner, put-single, put-closing, put-head, low-more}
@@ -53,7 +55,8 @@ module _ (most key own : ℕ) (first : List (List ℕ)) (front : List FileComman
   put-inners (w ∷ ws) others alike all s =
       let rest = put-inners ws others alike all.1 s in
       let one = all.0 in
-      put-inner most key own first front (bytes_of ws ++ others) (map (in_block here) ws ++ alike) rest few own_low w block here one.within one.head banner is_open some one.among one.number one.opens one.known one.inner one.reads one.part one.part_here
+      put-inner most key own first front (bytes_of ws ++ others) (map (in_block here) ws ++ alike) rest few own_low w block here one.within one.head banner is_open some one.among
+      one.number one.opens one.known one.inner one.reads one.part one.part_here
       (⊎_elim
       (λ (fixed : (here ≡ block) × (here ≤ most)). kept-fixed most key own first front (bytes_of ws ++ others) (map (in_block here) ws ++ alike) rest few own_low here fixed.1 ∙ ap Block fixed.0)
       (λ (keyed : (here ≡ key) × (block ≡ own)).
@@ -72,7 +75,9 @@ module _ (first : List (List ℕ)) (front : List FileCommand) (banner : open_ban
   p = length first
 
   -- a new block
-  put-block : (most : ℕ) → most ≤ p → (number : ℕ) → most ≤ number → (key : ℕ) (head : Written) (rest : List Written) (close : List ℕ) (others : List (List ℕ)) (alike : List FileCommand) → IsNewBlock number alike key head rest close → Closes others → State most 0 0 first front others alike →
+  put-block : (most : ℕ) → most ≤ p → (number : ℕ) → most ≤ number →
+      (key : ℕ) (head : Written) (rest : List Written) (close : List ℕ) (others : List (List ℕ)) (alike : List FileCommand) →
+      IsNewBlock number alike key head rest close → Closes others → State most 0 0 first front others alike →
       State most 0 0 first front (chunk_lines (NewBlock key head rest close) ++ others) (chunk_commands (NewBlock key head rest close) ++ alike)
   put-block most few number under key head rest close others alike is closes_it s =
       let high : most < key = let up = is.high in omega arith in
@@ -84,17 +89,22 @@ module _ (first : List (List ℕ)) (front : List FileCommand) (banner : open_ban
       let few_more : most ≤ length first_more = omega arith in
       let own_low : p + 1 ≤ length first_more = omega arith in
       let banner_more : open_banner first_more ≡ None = banner-more first head.line banner (ap is_inert is.heads) in
-      let begun : State most key (p + 1) first_more front_more others alike = put-head most 0 0 first front others alike s few (omega arith) head key is.within banner closes_it is.heads is.reads (part (p + 1)) high is.fresh in
-      let closed : State most key (p + 1) first_more front_more (close ∷ others) alike = put-closing most key (p + 1) first_more front_more others alike begun few_more own_low close banner_more closes_it is.closes in
+      let begun : State most key (p + 1) first_more front_more others alike =
+      put-head most 0 0 first front others alike s few (omega arith) head key is.within banner closes_it is.heads is.reads (part (p + 1)) high is.fresh in
+      let closed : State most key (p + 1) first_more front_more (close ∷ others) alike =
+      put-closing most key (p + 1) first_more front_more others alike begun few_more own_low close banner_more closes_it is.closes in
       let filled : State most key (p + 1) first_more front_more (bytes_of rest ++ close ∷ others) (map (in_block key) rest ++ alike) =
-      put-inners most key (p + 1) first_more front_more (p + 1) key few_more own_low banner_more (head-opens-block first head.line banner is.heads) (λ (none : p + 1 ≡ 0). omega arith) (inr (refl, refl)) rest (close ∷ others) alike
+      put-inners most key (p + 1) first_more front_more (p + 1) key few_more own_low banner_more (head-opens-block first head.line banner is.heads)
+      (λ (none : p + 1 ≡ 0). omega arith) (inr (refl, refl)) rest (close ∷ others) alike
       (here-all rest is.lines) closed in
       let whole : State most 0 0 first front (head.line ∷ (bytes_of rest ++ close ∷ others)) (in_block key head ∷ (map (in_block key) rest ++ alike)) =
       shift-command most most key (p + 1) first head.line (bytes_of rest ++ close ∷ others) (map (in_block key) rest ++ alike) (omega arith) front c (in_block key head) filled low refl refl
       (part (p + 1) ∙ sym filled.keyed ∙ ap filled.rename (sym (part key))) in
-      subst (λ (ls : List (List ℕ)). State most 0 0 first front (head.line ∷ ls) (in_block key head ∷ (map (in_block key) rest ++ alike))) (sym (append_assoc (bytes_of rest) (close ∷ []) others)) whole
+      subst (λ (ls : List (List ℕ)). State most 0 0 first front (head.line ∷ ls) (in_block key head ∷ (map (in_block key) rest ++ alike)))
+      (sym (append_assoc (bytes_of rest) (close ∷ []) others)) whole
     where
-      here-all : (ws : List Written) → AllByRecursion (IsBlockLine is.within) ws → AllByRecursion (IsHere (front ++ command_at (length first + 1) (length first + 1) head.command ∷ []) (length first + 1) key) ws
+      here-all : (ws : List Written) → AllByRecursion (IsBlockLine is.within) ws →
+          AllByRecursion (IsHere (front ++ command_at (length first + 1) (length first + 1) head.command ∷ []) (length first + 1) key) ws
       here-all [] all = tt
       here-all (w ∷ ws) all = (
         record {
@@ -123,7 +133,8 @@ module _ (first : List (List ℕ)) (front : List FileCommand) (banner : open_ban
   put-tops most few number under (SingleLine w ∷ ts) others alike all t =
       let rest = put-tops most few number under ts others alike all.1 t in
       record {
-        state = put-single most 0 0 first front (flat_map chunk_lines ts ++ others) (flat_map chunk_commands ts ++ alike) rest.state few (omega arith) w all.0.name banner rest.closes_it all.0.single all.0.reads all.0.part;
+        state = put-single most 0 0 first front (flat_map chunk_lines ts ++ others) (flat_map chunk_commands ts ++ alike) rest.state few
+            (omega arith) w all.0.name banner rest.closes_it all.0.single all.0.reads all.0.part;
         closes_it = single-closes w.line all.0.single;
       }
   put-tops most few number under (NewBlock key head inner close ∷ ts) others alike all t =
@@ -141,7 +152,8 @@ module _ (first : List (List ℕ)) (front : List FileCommand) (banner : open_ban
 
 -- the site of one command, where the lines after it have theirs
 module _ (known : List FileCommand) (put : FileCommand → Site) (first : List (List ℕ)) (line : List ℕ) (ls : List (List ℕ)) (front : List FileCommand) (c : FileCommand) (ds : List FileCommand)
-    (are : AreCommandsIn (first ++ line ∷ ls) (front ++ c ∷ ds)) (whole : known ≡ front ++ c ∷ ds) (low : AreLow (length first) front) (rising : Rising (length first + 1) (c ∷ ds)) (number : c.line ≡ length first + 1)
+    (are : AreCommandsIn (first ++ line ∷ ls) (front ++ c ∷ ds)) (whole : known ≡ front ++ c ∷ ds) (low : AreLow (length first) front) (rising : Rising (length first + 1) (c ∷ ds))
+    (number : c.line ≡ length first + 1)
     (good : IsGood known c line (put c) (new_commands put ds)) where
   abbrev edge : ℕ
   edge = length first
@@ -204,7 +216,19 @@ module _ (known : List FileCommand) (put : FileCommand → Site) (first : List (
   here-after [] all = tt
   here-after (w ∷ ws) all =
       let one = all.0 in (
-        record { within = one.within; head = one.head; among = among-more one.head one.among (let n = one.number in let u = under in omega arith); number = one.number; opens = one.opens; known = one.known; inner = one.inner; reads = one.reads; part = one.part; part_here = one.part },
+        record {
+          within = one.within;
+          head = one.head;
+          among = among-more one.head one.among (let n = one.number in let u = under in omega arith);
+          number = one.number;
+          opens =
+              one.opens;
+          known = one.known;
+          inner = one.inner;
+          reads = one.reads;
+          part = one.part;
+          part_here = one.part;
+        },
         here-after ws all.1,
       )
 
@@ -213,7 +237,19 @@ module _ (known : List FileCommand) (put : FileCommand → Site) (first : List (
   here-before (w ∷ ws) all =
       let one = all.0.is_inner in
       let other = all.0.no_head in (
-        record { within = one.within; head = one.head; among = earlier one.head one.among (let n = one.number in let u = under in omega arith); number = one.number; opens = one.opens; known = one.known; inner = one.inner; reads = one.reads; part = one.part; part_here = one.part },
+        record {
+          within = one.within;
+          head = one.head;
+          among = earlier one.head one.among (let n = one.number in let u = under in omega arith);
+          number = one.number;
+          opens =
+              one.opens;
+          known = one.known;
+          inner = one.inner;
+          reads = one.reads;
+          part = one.part;
+          part_here = one.part;
+        },
         here-before ws all.1,
       )
 
@@ -221,11 +257,13 @@ module _ (known : List FileCommand) (put : FileCommand → Site) (first : List (
   more = length-append first (line ∷ [])
 
   -- lines after it
-  put-after : (ws : List Written) → AllByRecursion (IsInnerOf known c) ws → (most : ℕ) → most ≡ edge + 1 → (others : List (List ℕ)) (alike : List FileCommand) → State most 0 0 (first ++ line ∷ []) (front ++ c ∷ []) others alike →
+  put-after : (ws : List Written) → AllByRecursion (IsInnerOf known c) ws → (most : ℕ) → most ≡ edge + 1 → (others : List (List ℕ)) (alike : List FileCommand) →
+      State most 0 0 (first ++ line ∷ []) (front ++ c ∷ []) others alike →
       State most 0 0 (first ++ line ∷ []) (front ++ c ∷ []) (bytes_of ws ++ others) (map (in_block c.block) ws ++ alike)
   put-after [] all most is others alike s = s
   put-after (w ∷ ws) all most is others alike s =
-      put-inners most 0 0 (first ++ line ∷ []) (front ++ c ∷ []) c.block c.block (let long = more in omega arith) (omega arith) after open-after-it all.0.some (inl (refl, (let u = under in omega arith))) (w ∷ ws) others alike (here-after (w ∷ ws) all) s
+      put-inners most 0 0 (first ++ line ∷ []) (front ++ c ∷ []) c.block c.block (let long = more in omega arith) (omega arith) after open-after-it all.0.some
+      (inl (refl, (let u = under in omega arith))) (w ∷ ws) others alike (here-after (w ∷ ws) all) s
 
   head-false : c.block ≢ c.line → row.mark.head ≡ false
   head-false other = by row.mark.head refl
@@ -235,22 +273,26 @@ module _ (known : List FileCommand) (put : FileCommand → Site) (first : List (
       by true is = let own = row.told.own is in absurd (other (row.block ∙ own ∙ sym row.number))
 
   -- entries before it
-  put-entries : (ws : List Written) → AllByRecursion (IsEntryOf known c) ws → (others : List (List ℕ)) (alike : List FileCommand) → State edge 0 0 first front others alike → State edge 0 0 first front (bytes_of ws ++ others) (map (in_block c.block) ws ++ alike)
+  put-entries : (ws : List Written) → AllByRecursion (IsEntryOf known c) ws → (others : List (List ℕ)) (alike : List FileCommand) →
+      State edge 0 0 first front others alike → State edge 0 0 first front (bytes_of ws ++ others) (map (in_block c.block) ws ++ alike)
   put-entries [] all others alike s = s
   put-entries (w ∷ ws) all others alike s =
       let other = all.0.no_head in
       let some = all.0.is_inner.some in
-      let is_open : open_block first ≡ c.block = sym (ap open_block prefix) ∙ ap (λ (n : ℕ). open_block (take n text)) (sym place-is) ∙ row.told.inner (head-false other) (λ none. some (row.block ∙ none)) ∙ sym row.block in
+      let is_open : open_block first ≡ c.block = sym (ap open_block prefix) ∙ ap (λ (n : ℕ). open_block (take n text)) (sym place-is)
+      ∙ row.told.inner (head-false other) (λ none. some (row.block ∙ none)) ∙ sym row.block in
       put-inners edge 0 0 first front c.block c.block (omega arith) (omega arith) before is_open some (inl (refl, (let u = under in omega arith))) (w ∷ ws) others alike (here-before (w ∷ ws) all) s
 
   -- the command itself
-  put-command : (most : ℕ) → most ≡ edge + 1 → (others : List (List ℕ)) (alike : List FileCommand) → State most 0 0 (first ++ line ∷ []) (front ++ c ∷ []) others alike → State edge 0 0 first front (site.line ∷ others) (says_other c site.command ∷ alike)
+  put-command : (most : ℕ) → most ≡ edge + 1 → (others : List (List ℕ)) (alike : List FileCommand) →
+      State most 0 0 (first ++ line ∷ []) (front ++ c ∷ []) others alike → State edge 0 0 first front (site.line ∷ others) (says_other c site.command ∷ alike)
   put-command most is others alike s = by good.written
     where
       by : ((site.line ≡ line) × (site.command ≡ c.command)) ⊎ IsRewrittenFor known c line site → State edge 0 0 first front (site.line ∷ others) (says_other c site.command ∷ alike)
       by (inl (same, says)) =
           let one : State edge 0 0 first front (line ∷ others) (c ∷ alike) =
-          shift-command most edge 0 0 first line others alike (omega arith) front c c s low number refl (sym (renamed-old s.rename most s.fixed s.lists s.prefixes c.block c.command (let u = under in omega arith))) in
+          shift-command most edge 0 0 first line others alike (omega arith) front c c s low number refl
+          (sym (renamed-old s.rename most s.fixed s.lists s.prefixes c.block c.command (let u = under in omega arith))) in
           (subst (λ (l : List ℕ). State edge 0 0 first front (l ∷ others) (says_other c site.command ∷ alike)) (sym same)
           (subst (λ (k : Command). State edge 0 0 first front (line ∷ others) (record { line = c.line; block = c.block; command = k } ∷ alike)) (sym says) one))
       by (inr other) =
@@ -295,27 +337,34 @@ module _ (known : List FileCommand) (put : FileCommand → Site) (first : List (
       let four : State edge 0 0 first front ((bytes_of site.entries ++ (site.line ∷ bytes_of site.after)) ++ others) (own_commands c site ++ later) =
       subst (State edge 0 0 first front ((bytes_of site.entries ++ (site.line ∷ bytes_of site.after)) ++ others)) says
       (subst (λ (l : List (List ℕ)). State edge 0 0 first front l (map (in_block c.block) site.entries ++ (says_other c site.command ∷ (map (in_block c.block) site.after ++ later)))) lines three) in
-      let five : State edge 0 0 first front (flat_map chunk_lines site.tops ++ ((bytes_of site.entries ++ (site.line ∷ bytes_of site.after)) ++ others)) (flat_map chunk_commands site.tops ++ (own_commands c site ++ later)) = tops good.tops four in
+      let five : State edge 0 0 first front (flat_map chunk_lines site.tops ++ ((bytes_of site.entries ++ (site.line ∷ bytes_of site.after)) ++ others))
+      (flat_map chunk_commands site.tops ++ (own_commands c site ++ later)) = tops good.tops four in
       subst (State edge 0 0 first front (site_lines site ++ others)) (sym (append_assoc (flat_map chunk_commands site.tops) (own_commands c site) later))
-      (subst (λ (l : List (List ℕ)). State edge 0 0 first front l (flat_map chunk_commands site.tops ++ (own_commands c site ++ later))) (sym (append_assoc (flat_map chunk_lines site.tops) (bytes_of site.entries ++ (site.line ∷ bytes_of site.after)) others)) five)
+      (subst (λ (l : List (List ℕ)). State edge 0 0 first front l (flat_map chunk_commands site.tops ++ (own_commands c site ++ later)))
+      (sym (append_assoc (flat_map chunk_lines site.tops) (bytes_of site.entries ++ (site.line ∷ bytes_of site.after)) others)) five)
     where
       tops : (site.tops ≡ []) ⊎ ((site.entries ≡ []) × ((c.block ≡ 0) ⊎ (c.block ≡ c.line)) × AreChunks c.line (own_commands c site ++ new_commands put ds) site.tops) →
           State edge 0 0 first front ((bytes_of site.entries ++ (site.line ∷ bytes_of site.after)) ++ others) (own_commands c site ++ new_commands put ds) →
-          State edge 0 0 first front (flat_map chunk_lines site.tops ++ ((bytes_of site.entries ++ (site.line ∷ bytes_of site.after)) ++ others)) (flat_map chunk_commands site.tops ++ (own_commands c site ++ new_commands put ds))
+          State edge 0 0 first front (flat_map chunk_lines site.tops ++ ((bytes_of site.entries ++ (site.line ∷ bytes_of site.after)) ++ others))
+          (flat_map chunk_commands site.tops ++ (own_commands c site ++ new_commands put ds))
       tops (inl none) s =
           let x = ((bytes_of site.entries ++ (site.line ∷ bytes_of site.after)) ++ others) in
           let y = own_commands c site ++ new_commands put ds in
           subst (λ (ts : List Chunk). State edge 0 0 first front (flat_map chunk_lines ts ++ x) (flat_map chunk_commands ts ++ y)) (sym none) s
       tops (inr (none, top, chunks)) s =
-          let shut : Closes ((bytes_of site.entries ++ (site.line ∷ bytes_of site.after)) ++ others) = subst (λ (es : List Written). Closes ((bytes_of es ++ (site.line ∷ bytes_of site.after)) ++ others)) (sym none) (line-closes top) in
-          (put-tops first front before low edge (omega arith) c.line (omega arith) site.tops ((bytes_of site.entries ++ (site.line ∷ bytes_of site.after)) ++ others) (own_commands c site ++ new_commands put ds) chunks (record { state = s; closes_it = shut })).state
+          let shut : Closes ((bytes_of site.entries ++ (site.line ∷ bytes_of site.after)) ++ others) =
+          subst (λ (es : List Written). Closes ((bytes_of es ++ (site.line ∷ bytes_of site.after)) ++ others)) (sym none) (line-closes top) in
+          (put-tops first front before low edge (omega arith) c.line (omega arith) site.tops ((bytes_of site.entries ++ (site.line ∷ bytes_of site.after)) ++ others)
+          (own_commands c site ++ new_commands put ds) chunks (record { state = s; closes_it = shut })).state
 
 module _ (known : List FileCommand) (put : FileCommand → Site) where
   abbrev Goes : List (List ℕ) → Type 0
-  Goes ls = (n : ℕ) (first : List (List ℕ)) (front cs : List FileCommand) → length first + 1 ≡ n → AreCommandsIn (first ++ ls) (front ++ cs) → known ≡ front ++ cs → AreLow (length first) front → Rising n cs → open_banner (first ++ ls) ≡ None →
+  Goes ls = (n : ℕ) (first : List (List ℕ)) (front cs : List FileCommand) → length first + 1 ≡ n → AreCommandsIn (first ++ ls) (front ++ cs) → known ≡ front ++ cs →
+      AreLow (length first) front → Rising n cs → open_banner (first ++ ls) ≡ None →
       AreGood known put n ls cs → State (length first) 0 0 first front (new_lines put n ls cs) (new_commands put cs)
 
-  nothing : (first ls : List (List ℕ)) (front : List FileCommand) → AreCommandsIn (first ++ ls) (front ++ []) → AreLow (length first) front → open_banner (first ++ ls) ≡ None → State (length first) 0 0 first front ls []
+  nothing : (first ls : List (List ℕ)) (front : List FileCommand) → AreCommandsIn (first ++ ls) (front ++ []) → AreLow (length first) front →
+      open_banner (first ++ ls) ≡ None → State (length first) 0 0 first front ls []
   nothing first ls front are low banner = record {
     back = [];
     are = are;
@@ -331,7 +380,8 @@ module _ (known : List FileCommand) (put : FileCommand → Site) where
     outside = banner;
   }
 
-  at-site : (l : List ℕ) (ls : List (List ℕ)) → Goes ls → (n : ℕ) (first : List (List ℕ)) (front : List FileCommand) (c : FileCommand) (ds : List FileCommand) → length first + 1 ≡ n → AreCommandsIn (first ++ l ∷ ls) (front ++ c ∷ ds) → known ≡ front ++ c ∷ ds → AreLow (length first) front → Rising n (c ∷ ds) →
+  at-site : (l : List ℕ) (ls : List (List ℕ)) → Goes ls → (n : ℕ) (first : List (List ℕ)) (front : List FileCommand) (c : FileCommand) (ds : List FileCommand) →
+      length first + 1 ≡ n → AreCommandsIn (first ++ l ∷ ls) (front ++ c ∷ ds) → known ≡ front ++ c ∷ ds → AreLow (length first) front → Rising n (c ∷ ds) →
       open_banner (first ++ l ∷ ls) ≡ None → (b : Bool) → (c.line == n) ≡ b →
       MatchBool b (IsGood known c l (put c) (new_commands put ds) × AreGood known put (n + 1) ls ds) (AreGood known put (n + 1) ls (c ∷ ds)) →
       State (length first) 0 0 first front (cond b (site_lines (put c) ++ new_lines put (n + 1) ls ds) (l ∷ new_lines put (n + 1) ls (c ∷ ds))) (new_commands put (c ∷ ds))
@@ -345,9 +395,11 @@ module _ (known : List FileCommand) (put : FileCommand → Site) where
       let rest = goes (n + 1) first_more front_more ds (omega arith)
       (subst (λ (x : List (List ℕ)). AreCommandsIn x (front_more ++ ds)) (sym (append_assoc first (l ∷ []) ls)) (subst (AreCommandsIn (first ++ l ∷ ls)) (sym (append_assoc front (c ∷ []) ds)) are))
       (whole ∙ sym (append_assoc front (c ∷ []) ds)) low_more (subst (λ (k : ℕ). Rising (k + 1) ds) number rising.1) (ap open_banner (append_assoc first (l ∷ []) ls) ∙ banner) good.1 in
-      put-site known put first l ls front c ds are whole low (rising-lower n (length first + 1) (c ∷ ds) (omega arith) rising) (omega arith) good.0 (length first_more) more (new_lines put (n + 1) ls ds) rest
+      put-site known put first l ls front c ds are whole low (rising-lower n (length first + 1) (c ∷ ds) (omega arith) rising) (omega arith) good.0 (length first_more) more
+      (new_lines put (n + 1) ls ds) rest
     where
-      low-and : (cs : List FileCommand) → AreLow (length (first ++ l ∷ [])) cs → (c.line ≤ length (first ++ l ∷ [])) × (c.block ≤ length (first ++ l ∷ [])) → AreLow (length (first ++ l ∷ [])) (cs ++ c ∷ [])
+      low-and : (cs : List FileCommand) → AreLow (length (first ++ l ∷ [])) cs → (c.line ≤ length (first ++ l ∷ [])) × (c.block ≤ length (first ++ l ∷ [])) →
+          AreLow (length (first ++ l ∷ [])) (cs ++ c ∷ [])
       low-and [] all one = (one, tt)
       low-and (d ∷ cs) all one = (all.0, low-and cs all.1 one)
   at-site l ls goes n first front c ds is are whole low rising banner false test good =

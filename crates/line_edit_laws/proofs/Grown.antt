@@ -55,7 +55,8 @@ fresh-among (x ∷ xs) ts zs each =
       after = others x rest.after;
       was = ap (λ r. x ∷ others x r) rest.was ∙ ap (λ r. x ∷ r) (others-append x rest.before rest.after);
       is =
-          ap (λ r. x ∷ others x r) rest.is ∙ ap (λ r. x ∷ r) (others-append x rest.before (distinct ts ++ rest.after) ∙ ap (λ r. others x rest.before ++ r) (others-append x (distinct ts) rest.after)) ∙
+          ap (λ r. x ∷ others x r) rest.is ∙ ap (λ r. x ∷ r) (others-append x rest.before (distinct ts ++ rest.after) ∙ ap (λ r. others x rest.before ++ r)
+          (others-append x (distinct ts) rest.after)) ∙
           ap (λ r. x ∷ (others x rest.before ++ (r ++ others x rest.after))) (keeps-others x (distinct ts) (any-distinct x ts none));
     }
 
@@ -80,17 +81,20 @@ module _ (grow : FileCommand → List FileCommand) where
       all-parts [] all = tt
       all-parts (v ∷ vs) all = (all.0, all-parts vs all.1)
 
-      by : (vs : List FileCommand) → AllByRecursion (λ (v : FileCommand). part_of v ≡ part_of c) vs → (vs ≡ [] → ⊥) → (rs : List Part) × (map part_of vs ≡ part_of c ∷ rs) × AllByRecursion (λ (r : Part). r ≡ part_of c) rs
+      by : (vs : List FileCommand) → AllByRecursion (λ (v : FileCommand). part_of v ≡ part_of c) vs → (vs ≡ [] → ⊥) →
+          (rs : List Part) × (map part_of vs ≡ part_of c ∷ rs) × AllByRecursion (λ (r : Part). r ≡ part_of c) rs
       by [] all some = absurd (some refl)
       by (v ∷ vs) all some = (map part_of vs, ap (λ (p : Part). p ∷ map part_of vs) all.0, all-parts vs all.1)
 
-  parts-grown : (xs : List Part) (cs : List FileCommand) (zs : List Part) → AllByRecursion (IsGrown grow) cs → distinct (xs ++ (map part_of (flat_map grow cs) ++ zs)) ≡ distinct (xs ++ (map part_of cs ++ zs))
+  parts-grown : (xs : List Part) (cs : List FileCommand) (zs : List Part) → AllByRecursion (IsGrown grow) cs →
+      distinct (xs ++ (map part_of (flat_map grow cs) ++ zs)) ≡ distinct (xs ++ (map part_of cs ++ zs))
   parts-grown xs [] zs all = refl
   parts-grown xs (c ∷ cs) zs all =
       let (rs, is, same) = first-part c all.0 in
       let parts : map part_of (grow c ++ flat_map grow cs) ++ zs ≡ part_of c ∷ (rs ++ (map part_of (flat_map grow cs) ++ zs)) =
       ap (λ l. l ++ zs) (map-append part_of (grow c) (flat_map grow cs) ∙ ap (λ l. l ++ map part_of (flat_map grow cs)) is) ∙ append_assoc (part_of c ∷ rs) (map part_of (flat_map grow cs)) zs in
-      let split : xs ++ part_of c ∷ (map part_of (flat_map grow cs) ++ zs) ≡ (xs ++ part_of c ∷ []) ++ (map part_of (flat_map grow cs) ++ zs) = sym (append_assoc xs (part_of c ∷ []) (map part_of (flat_map grow cs) ++ zs)) in
+      let split : xs ++ part_of c ∷ (map part_of (flat_map grow cs) ++ zs) ≡ (xs ++ part_of c ∷ []) ++ (map part_of (flat_map grow cs) ++ zs) =
+      sym (append_assoc xs (part_of c ∷ []) (map part_of (flat_map grow cs) ++ zs)) in
       ap (λ l. distinct (xs ++ l)) parts ∙ repeats xs (part_of c) rs (map part_of (flat_map grow cs) ++ zs) same ∙ ap distinct split ∙ parts-grown (xs ++ part_of c ∷ []) cs zs all.1 ∙
       ap distinct (append_assoc xs (part_of c ∷ []) (map part_of cs ++ zs))
 
@@ -123,7 +127,8 @@ module _ (grow : FileCommand → List FileCommand) where
     parts =
         ap distinct (map-append part_of (flat_map grow front) (added ++ flat_map grow back) ∙ ap (λ l. map part_of (flat_map grow front) ++ l) (map-append part_of added (flat_map grow back))) ∙
         parts-grown [] front (map part_of added ++ map part_of (flat_map grow back)) one ∙
-        ap distinct (sym (append_assoc (map part_of front) (map part_of added) (map part_of (flat_map grow back))) ∙ ap (λ l. (map part_of front ++ map part_of added) ++ l) (sym (append-nil (map part_of (flat_map grow back))))) ∙
+        ap distinct (sym (append_assoc (map part_of front) (map part_of added) (map part_of (flat_map grow back)))
+        ∙ ap (λ l. (map part_of front ++ map part_of added) ++ l) (sym (append-nil (map part_of (flat_map grow back))))) ∙
         parts-grown (map part_of front ++ map part_of added) back [] two ∙
         ap distinct (ap (λ l. (map part_of front ++ map part_of added) ++ l) (append-nil (map part_of back)) ∙ append_assoc (map part_of front) (map part_of added) (map part_of back))
 
@@ -141,7 +146,8 @@ module _ (grow : FileCommand → List FileCommand) where
 
     split-members : (q : Part) → members new q ≡ flat_map grow (members front q) ++ (members added q ++ flat_map grow (members back q))
     split-members q =
-        filter-append (λ d. is_same q (part_of d)) (flat_map grow front) (added ++ flat_map grow back) ∙ ap (λ r. members (flat_map grow front) q ++ r) (filter-append (λ d. is_same q (part_of d)) added (flat_map grow back)) ∙
+        filter-append (λ d. is_same q (part_of d)) (flat_map grow front) (added ++ flat_map grow back) ∙ ap (λ r. members (flat_map grow front) q ++ r)
+        (filter-append (λ d. is_same q (part_of d)) added (flat_map grow back)) ∙
         (let f = members-grown q front one in let b = members-grown q back two in λ i. f i ++ (members added q ++ b i))
 
     flat-append : (xs ys : List FileCommand) → flat_map grow (xs ++ ys) ≡ flat_map grow xs ++ flat_map grow ys
@@ -172,8 +178,10 @@ module _ (grow : FileCommand → List FileCommand) where
       new =
           ap (map (members new)) (parts ∙ among.is) ∙ map-append (members new) among.before (distinct (map part_of added) ++ among.after) ∙
           ap (λ r. map (members new) among.before ++ r) (map-append (members new) (distinct (map part_of added)) among.after) ∙
-          (let first = map-on (members new) (λ q. flat_map grow (members (front ++ back) q)) among.before (λ q there. old-member q (subst (λ (l : List Part). Contains l q) (sym old-parts) (elements.Contains-append_left among.before among.after q there))) in
+          (let first = map-on (members new) (λ q. flat_map grow (members (front ++ back) q)) among.before
+          (λ q there. old-member q (subst (λ (l : List Part). Contains l q) (sym old-parts) (elements.Contains-append_left among.before among.after q there))) in
           let middle = map-on (members new) (members added) (distinct (map part_of added)) new-member in
-          let last = map-on (members new) (λ q. flat_map grow (members (front ++ back) q)) among.after (λ q there. old-member q (subst (λ (l : List Part). Contains l q) (sym old-parts) (elements.Contains-append_right among.before among.after q there))) in
+          let last = map-on (members new) (λ q. flat_map grow (members (front ++ back) q)) among.after
+          (λ q there. old-member q (subst (λ (l : List Part). Contains l q) (sym old-parts) (elements.Contains-append_right among.before among.after q there))) in
           λ i. first i ++ (middle i ++ last i));
     }

@@ -1,5 +1,6 @@
 -- The last of the first lines is one of the others, as it was or written anew.
-use Rattle.std.proofs.Common.{◌≡◌, ℕ, ◌+◌, ◌<◌, ◌≤◌, ◌==◌, ◌||◌, ◌⊎◌, inl, inr, not, Bool, true, false, Some, None, List, [], ◌∷◌, ◌++◌, length, length-append, take, get_or, refl, sym, ap, subst, ◌∙◌, arith, append_assoc, Contains, MatchBool}
+use Rattle.std.proofs.Common.{◌≡◌, ℕ, ◌+◌, ◌<◌, ◌≤◌, ◌==◌, ◌||◌, ◌⊎◌, inl, inr, not, Bool, true, false, Some, None}
+use Rattle.std.proofs.Common.{List, [], ◌∷◌, ◌++◌, length, length-append, take, get_or, refl, sym, ap, subst, ◌∙◌, arith, append_assoc, Contains, MatchBool}
 use Rattle.std.specs.Prelude.{slice_get, option_map, Ok, Err, Result}
 use Rattle.std.proofs.lemmas.Bool.{eq-eqb, ne_eqb}
 use Rattle.std.proofs.lemmas.Option.{same_Some, slice_get-map}
@@ -44,7 +45,8 @@ use Rattle.line_edit_laws.specs.Sites.{Site, says_other, IsRewrittenFor, IsOfBlo
 use Rattle.line_edit_laws.proofs.States.{State, AreLow, high-less}
 
 -- a command of the old file has its part's name
-pub renamed-old : (rename : Part → Part) (most : ℕ) → ((k : ℕ) → k ≤ most → rename (Block k) ≡ Block k) → ((name : List ℕ) → rename (Lines name) ≡ Lines name) → ((name : List ℕ) → rename (PrefixLines name) ≡ PrefixLines name) →
+pub renamed-old : (rename : Part → Part) (most : ℕ) → ((k : ℕ) → k ≤ most → rename (Block k) ≡ Block k) → ((name : List ℕ) → rename (Lines name) ≡ Lines name) →
+    ((name : List ℕ) → rename (PrefixLines name) ≡ PrefixLines name) →
     (block : ℕ) (command : Command) → block ≤ most → rename (part_in block command) ≡ part_in block command
 renamed-old rename most fixed lists prefixes block (ListLine name entry) low = lists name
 renamed-old rename most fixed lists prefixes block (PrefixLine name number entry) low = prefixes name
@@ -72,7 +74,8 @@ module _ (most less key own : ℕ) (first : List (List ℕ)) (line : List ℕ) (
   }
 
   -- a line with its command
-  pub shift-command : (front : List FileCommand) (c v : FileCommand) (s : State most key own (first ++ line ∷ []) (front ++ c ∷ []) others alike) → AreLow (length first) front → c.line ≡ length first + 1 →
+  pub shift-command : (front : List FileCommand) (c v : FileCommand) (s : State most key own (first ++ line ∷ []) (front ++ c ∷ []) others alike) →
+      AreLow (length first) front → c.line ≡ length first + 1 →
       c.command ≡ v.command → part_of c ≡ s.rename (part_of v) → State less 0 0 first front (line ∷ others) (v ∷ alike)
   shift-command front c v s low number says part = record {
     back = c ∷ s.back;
@@ -197,7 +200,8 @@ pub contains-middle : (front : List FileCommand) (c : FileCommand) (back : List 
 contains-middle [] c back = Contains-head c back
 contains-middle (x ∷ front) c back = items.Contains-tail x c (front ++ c ∷ back) (contains-middle front c back)
 
-same-split : (n : ℕ) (front : List FileCommand) (c : FileCommand) (back f : List FileCommand) (d : FileCommand) (b : List FileCommand) → Rising n (front ++ c ∷ back) → front ++ c ∷ back ≡ f ++ d ∷ b → c.line ≡ d.line → SameSplit front back c f b d
+same-split : (n : ℕ) (front : List FileCommand) (c : FileCommand) (back f : List FileCommand) (d : FileCommand) (b : List FileCommand) →
+    Rising n (front ++ c ∷ back) → front ++ c ∷ back ≡ f ++ d ∷ b → c.line ≡ d.line → SameSplit front back c f b d
 same-split n [] c back [] d b up is line = let e = same-cons c d back b is in record { fronts = refl; backs = sym e.1; ones = sym e.0 }
 same-split n [] c back (y ∷ f) d b up is line =
     let e = same-cons c y back (f ++ d ∷ b) is in
@@ -272,7 +276,14 @@ module _ (known : List FileCommand) (most less : ℕ) (first : List (List ℕ)) 
           let inside : (row.mark.head || (row.mark.block == 0)) ≡ false = ap (λ (h : Bool). h || (row.mark.block == 0)) no-head ∙ ne_eqb row.mark.block 0 (λ none. of.some (row.block ∙ none)) in
           let one : MarkOpens (marks_in text) row.mark.block r.within = subst (λ (b : Bool). MatchBool b (r.within ≡ kinds.Top) (MarkOpens (marks_in text) row.mark.block r.within)) inside r.stands in
           let opened : Opened cs row.mark.block other.within =
-          record { head = of.head; among = elements.Contains-append_left front (c ∷ s.back) of.head (earlier of.head of.among of.number); line = of.number ∙ row.block; opens = of.opens; known = of.known } in
+          record {
+            head = of.head;
+            among = elements.Contains-append_left front (c ∷ s.back) of.head (earlier of.head of.among of.number);
+            line = of.number ∙ row.block;
+            opens =
+                of.opens;
+            known = of.known;
+          } in
           opens-once (marks_in text) row.mark.block r.within other.within one (head-opens (marks_in text) cs row.mark.block other.within are.reads opened)
 
   words-are : row.mark.words ≡ words line

@@ -1,5 +1,6 @@
 -- A file whose first lines are old and whose others are edited: one edit more, from the last line to the first.
-use Rattle.std.proofs.Common.{◌≡◌, ◌≢◌, ℕ, ◌+◌, ◌<◌, ◌≤◌, ◌⊎◌, inl, inr, nat_le, Bool, true, false, None, List, [], ◌∷◌, ◌++◌, length, length-append, take, map, refl, sym, ap, subst, ◌∙◌, arith, ⊎_elim, append_assoc, Contains, IsTrue}
+use Rattle.std.proofs.Common.{◌≡◌, ◌≢◌, ℕ, ◌+◌, ◌<◌, ◌≤◌, ◌⊎◌, inl, inr, nat_le, Bool, true, false, None, List, []}
+use Rattle.std.proofs.Common.{◌∷◌, ◌++◌, length, length-append, take, map, refl, sym, ap, subst, ◌∙◌, arith, ⊎_elim, append_assoc, Contains, IsTrue}
 use Rattle.std.specs.List.{AllZip, AllByRecursion}
 use Rattle.std.proofs.lemmas.Bool.{cases_Bool, cases_lt, cond-true, cond-false, leb-true, le-leb, ne_eqb}
 use Rattle.std.proofs.lemmas.List.{map-append}
@@ -54,9 +55,11 @@ pub record State (most key own : ℕ) (first : List (List ℕ)) (front : List Fi
   pub outside : open_banner (first ++ others) ≡ None
 
 -- one command more between low ones and high ones
-pub with-between : (place : ℕ) (c : FileCommand) (front back : List FileCommand) → AreLow place front → AreHigh place back → with_command place c (front ++ back) ≡ front ++ c ∷ map (command_moved place) back
+pub with-between : (place : ℕ) (c : FileCommand) (front back : List FileCommand) → AreLow place front → AreHigh place back →
+    with_command place c (front ++ back) ≡ front ++ c ∷ map (command_moved place) back
 with-between place c [] [] low high = refl
-with-between place c [] (d ∷ back) low high = cond-false _ _ _ (⊎_elim (λ below. let under = leb-true d.line place below in let over = high.0 in absurd (omega arith)) (λ other. other) (cases_Bool (nat_le d.line place)))
+with-between place c [] (d ∷ back) low high = cond-false _ _ _
+    (⊎_elim (λ below. let under = leb-true d.line place below in let over = high.0 in absurd (omega arith)) (λ other. other) (cases_Bool (nat_le d.line place)))
 with-between place c (d ∷ front) back low high =
     let line = moved-low place d.line low.0.0 in
     let block = moved-low place d.block low.0.1 in
@@ -84,7 +87,8 @@ low-more n m [] less low = tt
 low-more n m (d ∷ front) less low = (((let up = low.0.0 in omega arith), (let up = low.0.1 in omega arith)), low-more n m front less low.1)
 
 -- commands that are alike still are where they are moved
-zip-moved : (place : ℕ) (rename after : Part → Part) (vs cs : List FileCommand) → ((v : FileCommand) → Contains vs v → after (part_of v) ≡ part_moved place (rename (part_of v))) → AllZip (IsAlike rename) vs cs → AllZip (IsAlike after) vs (map (command_moved place) cs)
+zip-moved : (place : ℕ) (rename after : Part → Part) (vs cs : List FileCommand) →
+    ((v : FileCommand) → Contains vs v → after (part_of v) ≡ part_moved place (rename (part_of v))) → AllZip (IsAlike rename) vs cs → AllZip (IsAlike after) vs (map (command_moved place) cs)
 zip-moved place rename after [] [] each all = tt
 zip-moved place rename after [] (c ∷ cs) each all = absurd all
 zip-moved place rename after (v ∷ vs) [] each all = absurd all
@@ -160,8 +164,10 @@ module _ (most key own : ℕ) (first : List (List ℕ)) (front : List FileComman
   }
 
   -- a line of the block that is open after the first lines, which is that of a number here
-  pub put-inner : (w : Written) (block here : ℕ) (within_kind : BlockKind) (head : FileCommand) → open_banner first ≡ None → open_block first ≡ block → block ≢ 0 → Contains front head → head.line ≡ block → opened_by head.command ≡ within_kind → within_kind ≢ kinds.Inert →
-      IsInner w.line → ReadBy (is_extended_block within_kind) (words w.line) (rows within_kind) w.command → part_in block w.command ≡ Block block → part_in here w.command ≡ Block here → kept (Block here) ≡ Block block →
+  pub put-inner : (w : Written) (block here : ℕ) (within_kind : BlockKind) (head : FileCommand) → open_banner first ≡ None → open_block first ≡ block →
+      block ≢ 0 → Contains front head → head.line ≡ block → opened_by head.command ≡ within_kind → within_kind ≢ kinds.Inert →
+      IsInner w.line → ReadBy (is_extended_block within_kind) (words w.line) (rows within_kind) w.command → part_in block w.command ≡ Block block →
+      part_in here w.command ≡ Block here → kept (Block here) ≡ Block block →
       State most key own first front (w.line ∷ others) (in_block here w ∷ alike)
   put-inner w block here within_kind head banner is_open some among number opens known inner reads part part_here told =
       let banner_here : open_banner (take p (first ++ others)) ≡ None = ap open_banner prefix ∙ banner in
@@ -187,7 +193,8 @@ module _ (most key own : ℕ) (first : List (List ℕ)) (front : List FileComman
   list-kept q name (inr is) = ap kept is ∙ ap (part_moved p) (s.prefixes name) ∙ sym is
 
   -- a line of a list that stands as lines
-  pub put-single : (w : Written) (name : List ℕ) → open_banner first ≡ None → Closes others → IsSingle w.line → ReadBy false (words w.line) (rows kinds.Top) w.command → (part_in 0 w.command ≡ Lines name) ⊎ (part_in 0 w.command ≡ PrefixLines name) →
+  pub put-single : (w : Written) (name : List ℕ) → open_banner first ≡ None → Closes others → IsSingle w.line →
+      ReadBy false (words w.line) (rows kinds.Top) w.command → (part_in 0 w.command ≡ Lines name) ⊎ (part_in 0 w.command ≡ PrefixLines name) →
       State most key own first front (w.line ∷ others) (in_block 0 w ∷ alike)
   put-single w name banner closes_it single reads part =
       let may = top-here w.line banner closes_it (inr (inl single)) in
@@ -202,7 +209,8 @@ module _ (most key own : ℕ) (first : List (List ℕ)) (front : List FileComman
       record {
         back = map (command_moved p) s.back;
         are = subst (λ (ls : List (List ℕ)). AreCommandsIn ls (front ++ map (command_moved p) s.back)) (inserted-here first others line)
-            (subst (AreCommandsIn (inserted p line (first ++ others))) (map-append (command_moved p) front s.back ∙ ap (λ (l : List FileCommand). l ++ map (command_moved p) s.back) (low-moved p front s.low)) are);
+            (subst (AreCommandsIn (inserted p line (first ++ others))) (map-append (command_moved p) front s.back
+            ∙ ap (λ (l : List FileCommand). l ++ map (command_moved p) s.back) (low-moved p front s.low)) are);
         low = s.low;
         high = high-less (p + 1) p (map (command_moved p) s.back) (omega arith) (high-moved p s.back s.high);
         rename = kept;
@@ -236,8 +244,10 @@ module _ (most key own : ℕ) (first : List (List ℕ)) (front : List FileComman
       other-way (kept q) (Block (p + 1)) (never-new p (s.rename q)) ∙ sym (other-way q (Block new) one) ∙ ap (is_same q) r_is
   sames new q r false false one two = same-moved p (s.rename q) (s.rename r) ∙ s.same q r
 
-  pub put-head : (w : Written) (new : ℕ) (within_kind : BlockKind) → open_banner first ≡ None → Closes others → IsHead w.line → ReadBy false (words w.line) (rows kinds.Top) w.command → part_in (p + 1) w.command ≡ Block (p + 1) → most < new →
-      AllByRecursion (λ (v : FileCommand). is_same (Block new) (part_of v) ≡ false) alike → State most new (p + 1) (first ++ w.line ∷ []) (front ++ command_at (p + 1) (p + 1) w.command ∷ []) others alike
+  pub put-head : (w : Written) (new : ℕ) (within_kind : BlockKind) → open_banner first ≡ None → Closes others → IsHead w.line →
+      ReadBy false (words w.line) (rows kinds.Top) w.command → part_in (p + 1) w.command ≡ Block (p + 1) → most < new →
+      AllByRecursion (λ (v : FileCommand). is_same (Block new) (part_of v) ≡ false) alike →
+      State most new (p + 1) (first ++ w.line ∷ []) (front ++ command_at (p + 1) (p + 1) w.command ∷ []) others alike
   put-head w new within_kind banner closes_it head reads part high fresh =
       let may = top-here w.line banner closes_it (inl head) in
       let c : FileCommand = command_at (p + 1) (p + 1) w.command in
@@ -265,4 +275,5 @@ module _ (most key own : ℕ) (first : List (List ℕ)) (front : List FileComman
 
       fresh-one : (vs : List FileCommand) (v : FileCommand) → AllByRecursion (λ (x : FileCommand). is_same (Block new) (part_of x) ≡ false) vs → Contains vs v → is_same (Block new) (part_of v) ≡ false
       fresh-one [] v all there = absurd (Contains-none v there)
-      fresh-one (x ∷ vs) v all there = ⊎_elim (λ (here : x ≡ v). ap (λ (y : FileCommand). is_same (Block new) (part_of y)) (sym here) ∙ all.0) (λ later. fresh-one vs v all.1 later) (Contains-cases x v vs there)
+      fresh-one (x ∷ vs) v all there = ⊎_elim (λ (here : x ≡ v). ap (λ (y : FileCommand). is_same (Block new) (part_of y)) (sym here) ∙ all.0) (λ later. fresh-one vs v all.1 later)
+          (Contains-cases x v vs there)

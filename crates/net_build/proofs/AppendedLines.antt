@@ -1,4 +1,4 @@
--- What one line more at the end of a process says.
+-- What one more line at the end of a process changes.
 use Rattle.std.proofs.Common.{◌≡◌, ◌==◌, Bool, true, false, cond, List, [], ◌∷◌, ◌++◌, Option, Some, None, unwrap_or, refl, ap, ◌∙◌, append-nil}
 use Rattle.std.proofs.lemmas.List.Elements.{filter_map-append}
 use Rattle.std.specs.List.{filter_map, last_or, cons_option}
@@ -20,9 +20,10 @@ last-more xs None = ap (last_or None) (append-nil xs)
 last-more xs (Some x) = last-of None xs x
 
 pub last-counts : {X : Type 0} → (says : Command → Option X) → TheLastLineCounts says
-last-counts says lines g = ap (last_or None) (filter_map-append (λ (h : Given Command). says h.value) lines (g ∷ [])) ∙ last-more (filter_map (λ (h : Given Command). says h.value) lines) (says g.value)
+last-counts says lines g = ap (last_or None) (filter_map-append (λ (h : Given Command). says h.value) lines (g ∷ []))
+    ∙ last-more (filter_map (λ (h : Given Command). says h.value) lines) (says g.value)
 
--- a value that a test gives or not
+-- a value that a test lets through or not
 tested : {X : Type 0} → (b : Bool) (x d : X) (before : Option X) → unwrap_or (option_or (cond b (Some x) None) before) d ≡ cond b x (unwrap_or before d)
 tested true x d before = refl
 tested false x d before = refl
@@ -33,7 +34,8 @@ chosen false x before = refl
 
 pub passive-counts : APassiveLineCounts
 passive-counts lines line passive face name =
-    ap (λ o. unwrap_or o false) (last-counts (says_passive name) lines (line_of line (commands.Passive passive (Some face)))) ∙ tested (bytes_eq face name) passive false (last_said (says_passive name) lines)
+    ap (λ o. unwrap_or o false) (last-counts (says_passive name) lines (line_of line (commands.Passive passive (Some face)))) ∙ tested (bytes_eq face name)
+    passive false (last_said (says_passive name) lines)
 
 pub neighbor-counts : ANeighborLineCounts
 neighbor-counts lines line peer other down =

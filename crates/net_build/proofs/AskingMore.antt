@@ -1,4 +1,4 @@
--- What is asked for besides changes no network.
+-- Extra checks change no network.
 use Rattle.std.proofs.Common.{◌≡◌, ℕ, ◌+◌, ◌≤◌, Bool, true, false, Option, Some, None, List, [], ◌∷◌, length, refl, sym, arith}
 use Rattle.std.specs.Prelude.{cond, nat_lt, find}
 use Rattle.std.proofs.lemmas.Bool.{ltb-true, lt-ltb, false≢true}
@@ -17,13 +17,13 @@ use Rattle.net_build.specs.Networks.{IsNetworkOf, IsNetworkWithin, IsBuilt, IsBu
 use Rattle.net_build.specs.Order.{tries, Refuses, RefusesWithin, AreClear}
 use Rattle.net_rules.specs.Reasons.{IsClear}
 
--- one item, and whether each of two tests passes it
+-- one item, and whether it passes each of two tests
 passed_by_both : {X : Type 0} (p q : Bool) (y x : X) (a b : Option X) → (p ≡ true → q ≡ true) → (a ≡ Some x → b ≡ None → ⊥) → cond p (Some y) a ≡ Some x → cond q (Some y) b ≡ None → ⊥
 passed_by_both p true y x a b wider rest found none = none-some y (sym none)
 passed_by_both true false y x a b wider rest found none = false≢true (wider refl)
 passed_by_both false false y x a b wider rest found none = rest found none
 
--- what a test passes is found by a wider one too
+-- what passes a test is also found by a wider one
 found_by_wider : {X : Type 0} (P Q : X → Bool) → ((x : X) → P x ≡ true → Q x ≡ true) → (xs : List X) (x : X) → find P xs ≡ Some x → find Q xs ≡ None → ⊥
 found_by_wider P Q wider [] x found none = none-some x found
 found_by_wider P Q wider (y ∷ ys) x found none =
@@ -35,16 +35,17 @@ module _ (most other : ℕ) (fewer : most ≤ other) (configs : List Config) whe
   longer list long = lt-ltb most (length list.entries) (omega (arith, fewer, ltb-true other (length list.entries) long))
 
   long_refused : (r : Refusal) (bad : RefusesEntries other configs r) (o : Option ListText) → long_list most bad.config ≡ o → IsClear (RefusesEntries most configs) → ⊥
-  long_refused r bad None none clear = found_by_wider (λ (l : ListText). nat_lt other (length l.entries)) (λ (l : ListText). nat_lt most (length l.entries)) longer bad.config.lists bad.list bad.first none
+  long_refused r bad None none clear = found_by_wider (λ (l : ListText). nat_lt other (length l.entries))
+      (λ (l : ListText). nat_lt most (length l.entries)) longer bad.config.lists bad.list bad.first none
   long_refused r bad (Some list) first clear =
       clear (record { file = bad.place + 1; number = 0; kind = kinds.Limit limits.Entries (length list.entries) })
       (record { place = bad.place; config = bad.config; at_place = bad.at_place; list = list; first = first; told = refl })
 
-  -- where no list is too long for the smaller limit, none is for the greater
+  -- if no list is too long for the smaller limit, none is for the greater
   short_enough : IsClear (RefusesEntries most configs) → IsClear (RefusesEntries other configs)
   short_enough clear r bad = long_refused r bad (long_list most bad.config) refl clear
 
--- no links are asked for
+-- no links are to be down
 none_down : (doc : Document) → IsClear (RefusesDownLinks doc [])
 none_down doc r bad = none-some bad.number bad.above
 
@@ -110,7 +111,7 @@ built_the_same down most doc files built fewer is = record {
   places = is.places;
 }
 
--- no number of a link that is to be down is above the number of links, where none is refused
+-- if no number of a link that is to be down is refused, none is above the number of links
 above_or_none : (doc : Document) (down : List ℕ) (o : Option ℕ) → first_above (length doc.links) down ≡ o → IsClear (RefusesDownLinks doc down) → o ≡ None
 above_or_none doc down None is clear = refl
 above_or_none doc down (Some n) is clear =

@@ -1,4 +1,4 @@
--- No interface stands twice in the settings of a router file.
+-- No interface occurs twice in the settings of a router file.
 use Rattle.std.proofs.Common.{◌≡◌, ◌≢◌, ℕ, zero, ◌<◌, inl, inr, Bool, true, false, ◌||◌, List, [], ◌∷◌, ◌++◌, length, get_or, map, refl, sym, ◌∙◌, ap, subst, arith}
 use Rattle.std.specs.Prelude.{Contains, AllPairs}
 use Rattle.std.specs.List.{flat_map, list_any}
@@ -43,7 +43,7 @@ head_member cs p face h =
     let P : List FileCommand → Type 0 = λ ds. Contains ds h.head in
     from_filter (λ c. is_same p (part_of c)) cs h.head (subst P (sym h.block) (zero, omega arith, refl))
 
--- a part that is not among others is none of them
+-- a part that is not among others is the same as none of them
 not_among : (p : Part) (ps : List Part) (q : Part) → list_any (is_same p) ps ≡ false → Contains ps q → is_same p q ≡ false
 not_among p [] q none there = absurd (Contains-none q there)
 not_among p (r ∷ ps) q none there = go (is_same p r) refl (not_among p ps q)
@@ -81,9 +81,11 @@ heads_apart cs once p q apart f g of_f of_g same =
     let i = at_f.0.0 in
     let j = at_g.0.0 in
     elim (cases_lt i j) [
-      | inl below ↦ clash_at cs once of_f.head of_g.head i j below at_g.0.1 at_f.0.2 at_g.0.2 (clash_of of_f.head.command of_g.head.command of_f.name of_g.name of_f.is_interface of_g.is_interface names)
+      | inl below ↦ clash_at cs once of_f.head of_g.head i j below at_g.0.1 at_f.0.2 at_g.0.2
+          (clash_of of_f.head.command of_g.head.command of_f.name of_g.name of_f.is_interface of_g.is_interface names)
       | inr above ↦ elim (cases_lt j i) [
-        | inl below ↦ clash_at cs once of_g.head of_f.head j i below at_f.0.1 at_g.0.2 at_f.0.2 (clash_of of_g.head.command of_f.head.command of_g.name of_f.name of_g.is_interface of_f.is_interface (sym names))
+        | inl below ↦ clash_at cs once of_g.head of_f.head j i below at_f.0.1 at_g.0.2 at_f.0.2
+            (clash_of of_g.head.command of_f.head.command of_g.name of_f.name of_g.is_interface of_f.is_interface (sym names))
         | inr other ↦
             let places : i ≡ j = omega (arith, above, other) in
             let heads : of_f.head ≡ of_g.head = sym at_f.0.2 ∙ ap (λ (n : ℕ). get_or cs n of_f.head) places ∙ get_or_default cs j of_f.head of_g.head at_g.0.1 ∙ at_g.0.2 in
@@ -108,7 +110,8 @@ faces_apart cs once (p ∷ ps) fresh = go (members cs p) refl (faces_apart cs on
     rest : List FaceText
     rest = flat_map face_of (map (members cs) ps)
 
-    go : (block : List FileCommand) → members cs p ≡ block → AllPairs NamesApart (flat_map face_of (map (members cs) ps)) → AllPairs NamesApart (face_of block ++ flat_map face_of (map (members cs) ps))
+    go : (block : List FileCommand) → members cs p ≡ block → AllPairs NamesApart (flat_map face_of (map (members cs) ps)) →
+        AllPairs NamesApart (face_of block ++ flat_map face_of (map (members cs) ps))
     go [] is later = later
     go (h ∷ t) is later = elim (face_cases h.command h.line (h ∷ t)) [
       | inl of ↦

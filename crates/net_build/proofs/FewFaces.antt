@@ -46,7 +46,8 @@ few_from router n [] few = omega arith
 few_from router n (file ∷ configs) few =
     let f : FaceText → Site = λ face. record { router = n; config = file; face = face } in
     let here : length file.faces ≤ 256 = few zero file (omega arith) in
-    let whole : sum_by (counts router) (flat_map sites_of (enumerate_from n (file ∷ configs))) ≡ sum_by (counts router) (sites_of (n, file)) + sum_by (counts router) (flat_map sites_of (enumerate_from (n + 1) configs)) =
+    let whole : sum_by (counts router) (flat_map sites_of (enumerate_from n (file ∷ configs))) ≡ sum_by (counts router) (sites_of (n, file)) + sum_by (counts router)
+    (flat_map sites_of (enumerate_from (n + 1) configs)) =
     sum_by-append (counts router) (sites_of (n, file)) (flat_map sites_of (enumerate_from (n + 1) configs)) in
     elim (eqb_tells n router) [
       | inl same ↦

@@ -1,4 +1,4 @@
--- The network once its tries are over: it is valid, and each policy goes from one host network to another.
+-- The network after its tries: it is valid, and each policy goes from one host network to another.
 use Rattle.std.proofs.Common.{◌≡◌, ◌≢◌, ℕ, ◌<◌, ◌≤◌, ◌⊎◌, inl, inr, Option, Some, None, List, length, get_or, sym, subst, arith, Result}
 use Rattle.std.specs.Prelude.{All, IfSome, IsSomeAnd, slice_get}
 use Rattle.std.proofs.lemmas.Bool.{cases_lt}
@@ -41,7 +41,8 @@ turn_apart (Some p) None h = tt
 turn_apart (Some p) (Some q) h = λ address in_q in_p. h address in_p in_q
 
 -- no two interfaces overlap, whichever comes first
-apart_both : (net : Network) → ClearBelow net (length net.faces) → (i j : ℕ) (f g : FaceRow) → slice_get net.faces i ≡ Some f → slice_get net.faces j ≡ Some g → i ≢ j → AreLinked net i j ⊎ AreApart f g
+apart_both : (net : Network) → ClearBelow net (length net.faces) → (i j : ℕ) (f g : FaceRow) → slice_get net.faces i ≡ Some f → slice_get net.faces j ≡ Some g →
+    i ≢ j → AreLinked net i j ⊎ AreApart f g
 apart_both net clear i j f g at_i at_j other = elim (cases_lt i j) [
   | inl before ↦ clear i j f g before (slice_get_within net.faces j g at_j) at_i at_j
   | inr not_before ↦
@@ -63,17 +64,20 @@ module _ (doc : Document) (configs : List Config) (net : Network) (rows : AreRow
       (all_named configs own) (hosts_differ configs own) rows few_configs few_links (apart_both net clear)
 
   module _ (distinct : AreDistinct (full_names configs)) where
-    pub subnets_tried : (result : Result (Unit {0}) NetFault) → TriedAlone (InDocument kinds.LinkSubnets (λ (place : ℕ) (link : LinkRow). ¬ FitsSubnets net link) net.links) result → TriedAlone (RefusesLinkSubnets doc configs) result
+    pub subnets_tried : (result : Result (Unit {0}) NetFault) →
+        TriedAlone (InDocument kinds.LinkSubnets (λ (place : ℕ) (link : LinkRow). ¬ FitsSubnets net link) net.links) result → TriedAlone (RefusesLinkSubnets doc configs) result
     subnets_tried result said =
         tried_same (InDocument kinds.LinkSubnets (λ (place : ℕ) (link : LinkRow). ¬ FitsSubnets net link) net.links) (RefusesLinkSubnets doc configs) (λ (done : Unit {0}). Unit {0}) result
         (to_link_subnets doc configs distinct net rows) (from_link_subnets doc configs distinct net rows) said
 
-    pub endpoints_tried : (result : Result (Unit {0}) NetFault) → TriedAlone (InDocument kinds.Endpoint (λ (place : ℕ) (policy : Policy). ¬ HasEndpoints net policy.from policy.to) doc.policies) result → TriedAlone (RefusesEndpoint doc configs) result
+    pub endpoints_tried : (result : Result (Unit {0}) NetFault) →
+        TriedAlone (InDocument kinds.Endpoint (λ (place : ℕ) (policy : Policy). ¬ HasEndpoints net policy.from policy.to) doc.policies) result → TriedAlone (RefusesEndpoint doc configs) result
     endpoints_tried result said =
-        tried_same (InDocument kinds.Endpoint (λ (place : ℕ) (policy : Policy). ¬ HasEndpoints net policy.from policy.to) doc.policies) (RefusesEndpoint doc configs) (λ (done : Unit {0}). Unit {0}) result
+        tried_same (InDocument kinds.Endpoint (λ (place : ℕ) (policy : Policy). ¬ HasEndpoints net policy.from policy.to) doc.policies) (RefusesEndpoint doc
+        configs) (λ (done : Unit {0}). Unit {0}) result
         (to_endpoint doc configs distinct net rows) (from_endpoint doc configs distinct net rows) said
 
--- a policy between two host networks has ends
+-- a policy between two host networks has ends in the network
 pub has_ends : (net : Network) → IsValid net → (policy : Policy) → HasEndpoints net policy.from policy.to → HasEnds net (subject policy)
 has_ends net is policy h =
     let to : (q : Prefix) × (h.to.face.host ≡ Some q) × IsInside policy.to q = some_host h.to.face.host policy.to h.to.lies in
@@ -90,6 +94,6 @@ has_ends net is policy h =
           (record { face = h.from.face; at_place = h.from.at_place; lies = subst (λ (o : Option Prefix). IsSomeAnd o (IsInside policy.to)) (sym same) h.to.lies }) h.to);
     }
 
--- policies between two host networks go from one to another
+-- policies between two host networks have ends in the network
 pub all_have_ends : (net : Network) → IsValid net → (policies : List Policy) → All (λ policy. HasEndpoints net policy.from policy.to) policies → All (λ policy. HasEnds net (subject policy)) policies
 all_have_ends net is policies all i d l = has_ends net is (get_or policies i d) (all i d l)

@@ -31,14 +31,14 @@ use Rattle.net_rules.proofs.SameNetwork.{same_rows}
 use Rattle.net_rules.proofs.SameRows.{one_partner}
 use Rattle.net_build.proofs.WellFormed.{well_formed_config}
 
--- a text says one thing
+-- a text has one list of settings
 one_said : (text : List ℕ) (c d : Config) → Says text c → Says text d → c ≡ d
 one_said text c d a b =
     let lines : a.lines ≡ b.lines = one-list text a.lines b.lines a.are_lines b.are_lines in
     let P : Lines → Type 0 = λ l. IsConfigOf text l c in
     config_one text b.lines c d (subst P lines a.is_config) b.is_config
 
--- and then it is not faulty
+-- a text that has settings is not faulty
 said_or_faulty : (text : List ℕ) (c : Config) (line : ℕ) (kind : Kind) → Says text c → IsFaulty text line kind → ⊥
 said_or_faulty text c line kind says (inl orphan) = says.has_blocks.no_orphan line orphan.1
 said_or_faulty text c line kind says (inr (inl banner)) = says.has_blocks.no_open_banner line banner.1
@@ -47,7 +47,7 @@ said_or_faulty text c line kind says (inr (inr wrong)) =
     let P : Lines → Type 0 = λ l. IsConfigOf text l c in
     refused_alone text wrong.lines c line kind (subst P lines says.is_config) wrong.refused
 
--- a text has one first orphan, and one unclosed banner
+-- a text has one first orphan and one unclosed banner
 one_orphan : (lines : List (List ℕ)) (n m : ℕ) → IsFirstOrphan lines n → IsFirstOrphan lines m → n ≡ m
 one_orphan lines zero m a b = absurd a
 one_orphan lines (suc n) zero a b = absurd b
@@ -71,7 +71,7 @@ one_unclosed lines count (suc n) (suc m) a b = elim (cases_lt n m) [
   ]
 ]
 
--- a faulty text is so for one thing
+-- a faulty text is faulty at one line for one reason
 record OneFault (n m : ℕ) (k l : Kind) : Type 0 where
   line : n ≡ m
   kind : k ≡ l
@@ -91,7 +91,7 @@ one_fault text n m k l (inr (inr a)) (inr (inr b)) =
     let same = refusal_one text b.lines n m k l (subst P lines a.refused) b.refused in
     record { line = same.0; kind = same.1 }
 
--- a text before a place is said
+-- each text before a place has settings
 said_before : (files : List (List ℕ)) (configs : List Config) (i j : ℕ) (text : List ℕ) → i < j → slice_get files i ≡ Some text → AllZip Says (take j files) configs → (c : Config) × Says text c
 said_before files configs i zero text below at all = absurd (omega (arith, below))
 said_before [] configs i (suc j) text below at all = absurd (none-some text at)
@@ -146,7 +146,8 @@ names_apart down most doc files net is =
     let formed : All IsWellFormed is.configs = all_well_formed files is.configs is.said in
     full_names_distinct is.configs (hosts_differ is.configs is.clear.0) (λ k d within. (formed k d within).faces_differ)
 
-pub one_network : (down : List ℕ) (most : ℕ) (doc : Document) (files : List (List ℕ)) (net other : Network) → IsNetworkWithin down most doc files net → IsNetworkWithin down most doc files other → net ≡ other
+pub one_network : (down : List ℕ) (most : ℕ) (doc : Document) (files : List (List ℕ)) (net other : Network) → IsNetworkWithin down most doc files net →
+    IsNetworkWithin down most doc files other → net ≡ other
 one_network down most doc files net other a b =
     let configs : a.configs ≡ b.configs = one_configs files a.configs b.configs a.said b.said in
     let P : List Config → Type 0 = λ cs. AreRows doc cs net in
@@ -161,7 +162,8 @@ one_refusal down most doc files r s (inr a) (inr b) =
     let P : List Config → Type 0 = λ cs. IsFirstOf (RefusesWithin down most doc cs) tries r in
     one_first_of down most doc b.configs tries r s (subst P configs a.first) b.first
 
-pub network_or_refused : (down : List ℕ) (most : ℕ) (doc : Document) (files : List (List ℕ)) (net : Network) (r : Refusal) → IsNetworkWithin down most doc files net → IsFirstRefusalWithin down most doc files r → ⊥
+pub network_or_refused : (down : List ℕ) (most : ℕ) (doc : Document) (files : List (List ℕ)) (net : Network) (r : Refusal) →
+    IsNetworkWithin down most doc files net → IsFirstRefusalWithin down most doc files r → ⊥
 network_or_refused down most doc files net r is (inl faulty) = faulty_or_said files is.configs r faulty is.said
 network_or_refused down most doc files net r is (inr tried) =
     let configs : tried.configs ≡ is.configs = one_configs files tried.configs is.configs tried.said is.said in

@@ -1,4 +1,4 @@
--- The tries refuse one thing first.
+-- The tries have one first refusal.
 use Rattle.std.proofs.Common.{◌≡◌, ℕ, ◌+◌, inl, inr, Option, Some, List, [], ◌∷◌, length, sym, ◌∙◌, ap, arith}
 use Rattle.std.specs.Prelude.{slice_get}
 use Rattle.std.proofs.lemmas.Bool.{cases_lt}
@@ -10,10 +10,11 @@ use Rattle.net_model.specs.declared.policies.Document.{Document}
 use Rattle.ios_config.specs.declared.settings.Config.{Config}
 use Rattle.ios_config.specs.declared.settings.ListText.{ListText}
 use Rattle.net_rules.specs.Limits.{long_list}
-use Rattle.net_build.specs.Order.{Try, Hostname, Protocol, TwoAreas, SameAs, LinkFace, DownLinks, NeighborUnknown, NetworkNotConnected, Overlap, LinkSubnets, ListStopsSession, AdjacencyForm, Interfaces, Entries, Endpoint, RefusesWithin, IsFirstOf, AreClear}
+use Rattle.net_build.specs.Order.{Try, Hostname, Protocol, TwoAreas, SameAs, LinkFace, DownLinks, NeighborUnknown, NetworkNotConnected}
+use Rattle.net_build.specs.Order.{Overlap, LinkSubnets, ListStopsSession, AdjacencyForm, Interfaces, Entries, Endpoint, RefusesWithin, IsFirstOf, AreClear}
 use Rattle.net_rules.specs.Reasons.{IsFirst, InFiles, InDocument}
 
--- the kind that a refusal of an item tells
+-- the kind of a refusal of an item
 files_kind : {X : Type 0} (kind : Kind) (Offends : ℕ → X → ℕ → Type 0) (items : List X) (r : Refusal) → InFiles kind Offends items r → r.kind ≡ kind
 files_kind kind Offends items r refuses = ap (λ (x : Refusal). x.kind) refuses.told
 
@@ -65,7 +66,7 @@ one_kind down most doc configs Entries = λ r s of_r of_s file.
     ap (λ (x : Refusal). x.kind) of_r.told ∙ ap (λ (l : ListText). kinds.Limit limits.Entries (length l.entries)) list ∙ sym (ap (λ (x : Refusal). x.kind) of_s.told)
 one_kind down most doc configs Endpoint = λ r s of_r of_s file. document_kind kinds.Endpoint _ _ r of_r.refuses ∙ sym (document_kind kinds.Endpoint _ _ s of_s.refuses)
 
--- a reason has one first refusal
+-- a try has one first refusal
 one_first : (Makes : Refusal → Type 0) → AreOfOneKind Makes → (r s : Refusal) → IsFirst Makes r → IsFirst Makes s → r ≡ s
 one_first Makes kind r s of_r of_s =
     let file : r.file ≡ s.file = elim (cases_lt r.file s.file) [
@@ -86,14 +87,15 @@ one_first Makes kind r s of_r of_s =
     λ i. record { file = file i; number = number i; kind = same i }
 
 -- some tries have one first refusal
-pub one_first_of : (down : List ℕ) (most : ℕ) (doc : Document) (configs : List Config) (ts : List Try) (r s : Refusal) → IsFirstOf (RefusesWithin down most doc configs) ts r → IsFirstOf (RefusesWithin down most doc configs) ts s → r ≡ s
+pub one_first_of : (down : List ℕ) (most : ℕ) (doc : Document) (configs : List Config) (ts : List Try) (r s : Refusal) →
+    IsFirstOf (RefusesWithin down most doc configs) ts r → IsFirstOf (RefusesWithin down most doc configs) ts s → r ≡ s
 one_first_of down most doc configs [] r s of_r of_s = absurd of_r
 one_first_of down most doc configs (t ∷ ts) r s (inl of_r) (inl of_s) = one_first (RefusesWithin down most doc configs t) (one_kind down most doc configs t) r s of_r of_s
 one_first_of down most doc configs (t ∷ ts) r s (inl of_r) (inr of_s) = absurd (of_s.0 r of_r.made)
 one_first_of down most doc configs (t ∷ ts) r s (inr of_r) (inl of_s) = absurd (of_r.0 s of_s.made)
 one_first_of down most doc configs (t ∷ ts) r s (inr of_r) (inr of_s) = one_first_of down most doc configs ts r s of_r.1 of_s.1
 
--- and none where they are clear
+-- tries that are clear have no first refusal
 pub clear_or_first : (Makes : Try → Refusal → Type 0) (ts : List Try) (r : Refusal) → AreClear Makes ts → IsFirstOf Makes ts r → ⊥
 clear_or_first Makes [] r clear first = first
 clear_or_first Makes (t ∷ ts) r clear (inl first) = clear.0 r first.made

@@ -12,16 +12,17 @@ use Rattle.ios_config.specs.Commands.{IsNoCommand}
 use Rattle.ios_config.specs.declared.settings.Config.{Config}
 use Rattle.ios_config.specs.Configs.{IsRefused}
 use Rattle.net_build.specs.Networks.{IsFaulty, IsFirstRefusalWithin}
-use Rattle.net_build.specs.Order.{Try, Hostname, Protocol, TwoAreas, SameAs, LinkFace, DownLinks, NeighborUnknown, NetworkNotConnected, Overlap, LinkSubnets, ListStopsSession, AdjacencyForm, Interfaces, Entries, Endpoint, RefusesWithin, IsFirstOf, tries}
+use Rattle.net_build.specs.Order.{Try, Hostname, Protocol, TwoAreas, SameAs, LinkFace, DownLinks, NeighborUnknown, NetworkNotConnected}
+use Rattle.net_build.specs.Order.{Overlap, LinkSubnets, ListStopsSession, AdjacencyForm, Interfaces, Entries, Endpoint, RefusesWithin, IsFirstOf, tries}
 use Rattle.net_rules.specs.Reasons.{InFiles, InDocument}
 
--- whether a kind speaks of how a file was read
+-- whether a kind is about how a file was read
 abbrev says_reading : Kind → Bool
 says_reading kinds.Missing = true
 says_reading kinds.TooLong = true
 says_reading _ = false
 
--- the kind says something else
+-- the kind is about something else
 abbrev IsOther : Kind → Type 0
 IsOther kind = says_reading kind ≡ false
 
@@ -31,7 +32,7 @@ of_kind k l same other = ap says_reading same ∙ other
 is_other : (k l : Kind) → IsOther k → says_reading l ≡ true → k ≡ l → ⊥
 is_other k l other says same = false≢true (sym other ∙ ap says_reading same ∙ says)
 
--- a line is no command for its words
+-- a line that is no command is refused for its words
 no_command : (text : List ℕ) (line : Line) (within : BlockKind) (kind : Kind) → IsNoCommand text line within kind → IsOther kind
 no_command text line within kind (inl unknown) = of_kind kind kinds.UnknownLine unknown.0 refl
 no_command text line within kind (inr (inl word)) = of_kind kind kinds.BadWord word.0 refl
@@ -54,7 +55,7 @@ in_files kind Offends items other r refuses = of_kind r.kind kind (ap (λ (x : R
 in_document : {X : Type 0} (kind : Kind) (Offends : ℕ → X → Type 0) (items : List X) → says_reading kind ≡ false → (r : Refusal) → InDocument kind Offends items r → IsOther r.kind
 in_document kind Offends items other r refuses = of_kind r.kind kind (ap (λ (x : Refusal). x.kind) refuses.told) other
 
--- and the network for what they say
+-- a network is refused for what the lines say
 tried : (down : List ℕ) (most : ℕ) (doc : Document) (configs : List Config) (t : Try) (r : Refusal) → RefusesWithin down most doc configs t r → IsOther r.kind
 tried down most doc configs Hostname = in_files kinds.Hostname _ configs refl
 tried down most doc configs Protocol = in_files kinds.Protocol _ configs refl

@@ -1,4 +1,4 @@
--- What a setting of a router file says comes from a command that is in form.
+-- Each setting of a router file comes from a command that is in form.
 use Rattle.std.proofs.Common.{◌≡◌, ℕ, zero, suc, ◌-◌, ◌≤◌, ◌⊎◌, inl, inr, Bool, true, false, Option, Some, None, List, [], ◌∷◌, length, map, refl, sym, ◌∙◌, ap, subst, arith}
 use Rattle.std.specs.Prelude.{Contains, IfSome, IsTrue, option_and_then, is_some, reverse, cond}
 use Rattle.std.specs.List.{find}
@@ -25,7 +25,7 @@ name_form name = (names_formed name).0
 pub face_name_form : (name : List ℕ) → IsTrue (is_face_name name) → IsFaceName name
 face_name_form name = (names_formed name).1
 
--- what a setting says, by its command
+-- the value that a command gives a setting
 none_some : {V : Type 0} (v : V) → None ≡ Some (Some v) → ⊥
 none_some v e = absurd (cc)
 
@@ -47,7 +47,7 @@ IsBandwidth n = 1 ≤ n
 abbrev IsCost : ℕ → Type 0
 IsCost n = IsFrom 1 65535 n
 
--- an interface that a block is
+-- an interface given by a block
 pub record IsFaceOf (command : Command) (head : ℕ) (block : List FileCommand) : Type 0 where
   pub name : List ℕ
   pub is_interface : command ≡ commands.Interface name
@@ -84,12 +84,12 @@ outbound_form : SaysOnly outbound IsName
 outbound_form (commands.Group name false) v is form = subst IsName (same_value name v is) (name_form name form)
 outbound_form _ v is form = absurd (none_some v is)
 
--- a block is that of an interface, or gives none
+-- a block gives one interface or none
 pub face_cases : (command : Command) (head : ℕ) (block : List FileCommand) → IsFaceOf command head block ⊎ (face_by command head block ≡ [])
 face_cases (commands.Interface name) head block = inl (record { name = name; is_interface = refl; gives = refl })
 face_cases _ head block = inr refl
 
--- a process has lines of its block
+-- the lines of a process are those of its block
 pub process_lines : (command : Command) (head : FileCommand) (rest : List FileCommand) (process : ProcessText) → Contains (process_by command head rest) process → process.lines ≡ map given rest
 process_lines (commands.RouterOspf number) head rest process there = only_lines _ rest process refl there
 process_lines (commands.RouterBgp number) head rest process there = only_lines _ rest process refl there
@@ -99,7 +99,7 @@ pub binds_form : (command : Command) → IsInForm command → BindsName command
 binds_form (commands.NeighborList address bound) form = name_form bound form
 binds_form _ form = tt
 
--- what is found is among what is searched
+-- what is found in a list is one of its items
 found_in : {X : Type 0} (test : X → Bool) (xs : List X) (x : X) → find test xs ≡ Some x → Contains xs x
 found_in test [] x e = absurd (none-some x e)
 found_in test (y ∷ ys) x e = go (test y) refl (found_in test ys x)
@@ -113,7 +113,8 @@ reversed_in xs x (k, within, is) =
     let count = length-reverse xs in
     (length xs - 1 - k, omega (arith, within, count), sym (get_or-reverse xs k x (omega (arith, within, count))) ∙ is)
 
-pub setting_form : {V : Type 0} (says : Says V) (P : V → Type 0) → SaysOnly says P → (cs : List FileCommand) → ((c : FileCommand) → Contains cs c → IsInForm c.command) → IfSome (last_setting says cs) (λ g. P g.value)
+pub setting_form : {V : Type 0} (says : Says V) (P : V → Type 0) → SaysOnly says P → (cs : List FileCommand) →
+    ((c : FileCommand) → Contains cs c → IsInForm c.command) → IfSome (last_setting says cs) (λ g. P g.value)
 setting_form {V} says P only cs good = go (find (λ (c : FileCommand). is_some (says c.command)) (reverse cs)) refl
   where
     at : (c : FileCommand) (u : Option (Option V)) → says c.command ≡ u → IsInForm c.command → IfSome (given_at c.line u) (λ g. P g.value)
@@ -121,11 +122,12 @@ setting_form {V} says P only cs good = go (find (λ (c : FileCommand). is_some (
     at c (Some None) e form = tt
     at c (Some (Some v)) e form = only c.command v e form
 
-    go : (o : Option FileCommand) → find (λ (c : FileCommand). is_some (says c.command)) (reverse cs) ≡ o → IfSome (option_and_then (λ (c : FileCommand). given_at c.line (says c.command)) o) (λ g. P g.value)
+    go : (o : Option FileCommand) → find (λ (c : FileCommand). is_some (says c.command)) (reverse cs) ≡ o →
+        IfSome (option_and_then (λ (c : FileCommand). given_at c.line (says c.command)) o) (λ g. P g.value)
     go None e = tt
     go (Some c) e = at c (says c.command) refl (good c (reversed_in cs c (found_in (λ (d : FileCommand). is_some (says d.command)) (reverse cs) c e)))
 
--- a value in form has each part of its form
+-- a value in form has each part of the form
 first_part : {V : Type 0} (o : Option (Given V)) (P Q : V → Type 0) → IfSome o (λ g. P g.value × Q g.value) → IfSome o (λ g. P g.value)
 first_part None P Q is = tt
 first_part (Some g) P Q is = is.0

@@ -8,17 +8,20 @@ use Rattle.net_build.specs.Order.{Try, IsFirstOf, AreClear, Answers}
 
 module _ (Makes : Try → Refusal → Type 0) where
   -- a refusal of the first try is the first of all
-  pub first_fails : {X Y : Type 0} (t : Try) (ts : List Try) (IsRight : X → Type 0) (IsGood : Y → Type 0) (fault : NetFault) → Tried (Makes t) IsRight (Err fault) → Answers Makes (t ∷ ts) IsGood (Err fault)
+  pub first_fails : {X Y : Type 0} (t : Try) (ts : List Try) (IsRight : X → Type 0) (IsGood : Y → Type 0) (fault : NetFault) →
+      Tried (Makes t) IsRight (Err fault) → Answers Makes (t ∷ ts) IsGood (Err fault)
   first_fails t ts IsRight IsGood (Refused r) first = inl first
   first_fails t ts IsRight IsGood Memory first = tt
 
   -- where the first try is clear, the others decide
-  pub later_fails : {X : Type 0} (t : Try) (ts : List Try) (IsGood : X → Type 0) (fault : NetFault) → IsClear (Makes t) → Answers Makes ts IsGood (Err fault) → Answers Makes (t ∷ ts) IsGood (Err fault)
+  pub later_fails : {X : Type 0} (t : Try) (ts : List Try) (IsGood : X → Type 0) (fault : NetFault) → IsClear (Makes t) → Answers Makes ts IsGood (Err fault) →
+      Answers Makes (t ∷ ts) IsGood (Err fault)
   later_fails t ts IsGood (Refused r) clear first = inr (clear, first)
   later_fails t ts IsGood Memory clear first = tt
 
-  -- so they do whatever their answer is
-  pub later_decide : {X : Type 0} (t : Try) (ts : List Try) (IsGood : X → Type 0) (result : Result X NetFault) → IsClear (Makes t) → Answers Makes ts IsGood result → Answers Makes (t ∷ ts) IsGood result
+  -- so they do, whatever their answer is
+  pub later_decide : {X : Type 0} (t : Try) (ts : List Try) (IsGood : X → Type 0) (result : Result X NetFault) → IsClear (Makes t) →
+      Answers Makes ts IsGood result → Answers Makes (t ∷ ts) IsGood result
   later_decide t ts IsGood (Ok x) clear said = ((clear, said.0), said.1)
   later_decide t ts IsGood (Err fault) clear said = later_fails t ts IsGood fault clear said
 

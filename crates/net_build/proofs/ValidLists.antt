@@ -38,7 +38,7 @@ bound_packet_name config name wf (k, face, within, is, binds) =
       | inr outbound ↦ name_of face.list_out name face_wf.list_out outbound
     ]
 
--- the last of what lines say was said by one of them
+-- the last value that lines give was given by one of them
 last_among : {X Y : Type 0} (h : X → Option Y) (xs : List X) (before : Option Y) (y : Y) → last_or before (filter_map h xs) ≡ Some y → (before ≡ Some y) ⊎ ((x : X) × Contains xs x × (h x ≡ Some y))
 last_among {X} {Y} h [] before y e = inl e
 last_among {X} {Y} h (x ∷ xs) before y e = by (h x) refl (last_among h xs before y) (λ z. last_among h xs (Some z) y) e
@@ -68,9 +68,11 @@ bound_route_name config name wf (peer, bound) = elim (last_among (λ (g : Given 
 
 module _ (doc : Document) (configs : List Config) (net : Network) (k : AreKnown doc configs net) where
   -- the row of a router whose file gives or binds the name lists it
-  owner : (router : ℕ) (config : Config) (name : List ℕ) → slice_get configs router ≡ Some config → IsListName config name → (row : RouterRow) × (slice_get net.routers router ≡ Some row) × Contains row.names name
+  owner : (router : ℕ) (config : Config) (name : List ℕ) → slice_get configs router ≡ Some config → IsListName config name →
+      (row : RouterRow) × (slice_get net.routers router ≡ Some row) × Contains row.names name
   owner router config name at is_name =
-      let r : (row : RouterRow) × (slice_get net.routers router ≡ Some row) × IsRouterRow net.protocol config row = AllZip-right (IsRouterRow net.protocol) configs net.routers k.rows.routers router config at in
+      let r : (row : RouterRow) × (slice_get net.routers router ≡ Some row) × IsRouterRow net.protocol config row =
+      AllZip-right (IsRouterRow net.protocol) configs net.routers k.rows.routers router config at in
       (r.0, r.1, (r.2.names.just name).1 is_name)
 
   well_formed_file : (router : ℕ) (config : Config) → slice_get configs router ≡ Some config → IsWellFormed config
@@ -83,7 +85,8 @@ module _ (doc : Document) (configs : List Config) (net : Network) (k : AreKnown 
 
   pub packet_lists : All (IsValidPacketList net) net.packet_lists
   packet_lists i d l =
-      packet_list_at (get_or net.packet_lists i d) ((k.rows.packet_lists.just (get_or net.packet_lists i d)).0 (Contains-at net.packet_lists i (get_or net.packet_lists i d) (slice_get-get_or net.packet_lists i d l)))
+      packet_list_at (get_or net.packet_lists i d) ((k.rows.packet_lists.just (get_or net.packet_lists i d)).0
+      (Contains-at net.packet_lists i (get_or net.packet_lists i d) (slice_get-get_or net.packet_lists i d l)))
 
   route_list_at : (list : RouteList) → IsRouteListRow configs list → IsValidRouteList net list
   route_list_at list row =
@@ -92,7 +95,8 @@ module _ (doc : Document) (configs : List Config) (net : Network) (k : AreKnown 
 
   pub route_lists : All (IsValidRouteList net) net.route_lists
   route_lists i d l =
-      route_list_at (get_or net.route_lists i d) ((k.rows.route_lists.just (get_or net.route_lists i d)).0 (Contains-at net.route_lists i (get_or net.route_lists i d) (slice_get-get_or net.route_lists i d l)))
+      route_list_at (get_or net.route_lists i d) ((k.rows.route_lists.just (get_or net.route_lists i d)).0
+      (Contains-at net.route_lists i (get_or net.route_lists i d) (slice_get-get_or net.route_lists i d l)))
 
   pub packet_lists_apart : AllPairs (λ l m. l.router.0 ≡ m.router.0 → l.name ≢ m.name) net.packet_lists
   packet_lists_apart i j d l m = names_differ _ _ (k.rows.packet_lists.order i j d l m)

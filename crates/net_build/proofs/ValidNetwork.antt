@@ -1,4 +1,4 @@
--- The network that has the rows of its files is valid, where no interfaces overlap and the links are as they should be.
+-- The network with the rows of its files is valid, if no interfaces overlap and the links are valid.
 use Rattle.std.proofs.Common.{◌≡◌, ◌≢◌, ℕ, ◌≤◌, ◌⊎◌, Option, Some, None, List, [], length, get_or, refl, sym, ◌∙◌, ap, subst, arith}
 use Rattle.std.specs.Prelude.{All, AllPairs, IfSome, IsSome, slice_get}
 use Rattle.std.specs.Option.{option_map_or}
@@ -24,7 +24,8 @@ use Rattle.net_build.proofs.ValidLists.{packet_lists, route_lists, packet_lists_
 use Rattle.net_build.proofs.ValidSessions.{sessions_valid, sessions_apart, fits_protocol}
 use Rattle.arc_base.proofs.Zips.{AllZip-left, AllZip-length}
 
-module _ (doc : Document) (configs : List Config) (net : Network) (k : AreKnown doc configs net) (named : All IsNamed configs) (hosts_differ : AllPairs (λ f g. host_name f ≢ host_name g) configs) (rows : AreRows doc configs net) where
+module _ (doc : Document) (configs : List Config) (net : Network) (k : AreKnown doc configs net) (named : All IsNamed configs)
+    (hosts_differ : AllPairs (λ f g. host_name f ≢ host_name g) configs) (rows : AreRows doc configs net) where
   router_at : (i : ℕ) (row : RouterRow) → slice_get net.routers i ≡ Some row → (config : Config) × (slice_get configs i ≡ Some config) × IsRouterRow net.protocol config row
   router_at i row at = AllZip-left (IsRouterRow net.protocol) configs net.routers k.rows.routers i row at
 

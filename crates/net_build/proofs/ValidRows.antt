@@ -35,7 +35,7 @@ use Rattle.net_rules.proofs.LinksApart.{joins_free, one_name}
 use Rattle.net_rules.proofs.SiteFacts.{site_of, name_at_site, same_router, same_site, well_formed_at}
 use Rattle.arc_base.proofs.Zips.{AllZip-left, AllZip-right, AllZip-length}
 
--- what is known of the rows of the network once the links are tried
+-- what is known of the rows of the network once the links have passed their tries
 pub record AreKnown (doc : Document) (configs : List Config) (net : Network) : Type 0 where
   pub well_formed : All IsWellFormed configs
   pub few : All (λ config. length config.faces ≤ 256) configs
@@ -90,14 +90,16 @@ module _ (doc : Document) (configs : List Config) (net : Network) (k : AreKnown 
       let piece = λ (x : FullName) (h : Contains (two_ends t.0) x). Contains-piece two_ends doc.links t.0 x (Contains-at doc.links m t.0 t.1) h in
       elim ends [
         | inl a_is ↦
-            subst (λ (n : FullName). Contains (ends_of doc.links) n) (one_name configs link.a.0 i (a_end t.0) (full_name s) t.2.a named a_is) (piece (a_end t.0) (Contains-head (a_end t.0) (b_end t.0 ∷ [])))
+            subst (λ (n : FullName). Contains (ends_of doc.links) n) (one_name configs link.a.0 i (a_end t.0) (full_name s) t.2.a named a_is)
+            (piece (a_end t.0) (Contains-head (a_end t.0) (b_end t.0 ∷ [])))
         | inr b_is ↦
             subst (λ (n : FullName). Contains (ends_of doc.links) n) (one_name configs link.b.0 i (b_end t.0) (full_name s) t.2.b named b_is)
             (piece (b_end t.0) (Contains-tail (a_end t.0) (b_end t.0) (b_end t.0 ∷ []) (Contains-head (b_end t.0) [])))
       ]
 
   -- a host network of an address lies in its subnet
-  hosted_in : (address : Option (ℕ × ℕ)) (longer : ℕ → ℕ) → ((n : ℕ) → n ≤ 32 → n ≤ longer n) → IfSome address (λ (a : ℕ × ℕ). a.1 ≤ 32) → (subnet : Option Prefix) (p : Prefix) → IsSubnet address subnet →
+  hosted_in : (address : Option (ℕ × ℕ)) (longer : ℕ → ℕ) → ((n : ℕ) → n ≤ 32 → n ≤ longer n) → IfSome address (λ (a : ℕ × ℕ). a.1 ≤ 32) →
+      (subnet : Option Prefix) (p : Prefix) → IsSubnet address subnet →
       IsSubnet (option_map (λ (a : ℕ × ℕ). (a.0, longer a.1)) address) (Some p) → (q : Prefix) × (subnet ≡ Some q) × IsInside p q
   hosted_in None longer up mask subnet p of_subnet of_p = absurd (none-some p (sym of_p))
   hosted_in (Some a) longer up mask None p of_subnet of_p = absurd of_subnet
@@ -115,7 +117,8 @@ module _ (doc : Document) (configs : List Config) (net : Network) (k : AreKnown 
   mask_of : (face : FaceText) → IsWellFormedFace face → IfSome (address_of face) (λ (a : ℕ × ℕ). a.1 ≤ 32)
   mask_of face wf = by face.addr face.mask_len wf.mask_high
     where
-      by : (a : Option (Given ℕ)) (m : Option (Given ℕ)) → IfSome m (λ g. g.value ≤ 32) → IfSome (option_and_then (λ (x : ℕ). option_map (λ (y : ℕ). (x, y)) (value m)) (value a)) (λ (p : ℕ × ℕ). p.1 ≤ 32)
+      by : (a : Option (Given ℕ)) (m : Option (Given ℕ)) → IfSome m (λ g. g.value ≤ 32) →
+          IfSome (option_and_then (λ (x : ℕ). option_map (λ (y : ℕ). (x, y)) (value m)) (value a)) (λ (p : ℕ × ℕ). p.1 ≤ 32)
       by None m h = tt
       by (Some a) None h = tt
       by (Some a) (Some m) h = h
@@ -143,13 +146,15 @@ module _ (doc : Document) (configs : List Config) (net : Network) (k : AreKnown 
       by None low high = cost_range (reference_of lines) (bandwidth_of face)
       by (Some g) low high = (low, high)
 
-  list_within : (bound : Option (List ℕ)) (router : ℕ) (o : Option ListId) → IsPlaceAmong (map packet_list_key net.packet_lists) router bound o → IfSome o (λ id. IsPlace net.packet_lists id.0 × IsSome bound)
+  list_within : (bound : Option (List ℕ)) (router : ℕ) (o : Option ListId) → IsPlaceAmong (map packet_list_key net.packet_lists) router bound o →
+      IfSome o (λ id. IsPlace net.packet_lists id.0 × IsSome bound)
   list_within bound router None at = tt
   list_within None router (Some id) at = absurd at
   list_within (Some name) router (Some id) at =
       (omega (arith, slice_get_within (map packet_list_key net.packet_lists) id.0 (router, name) at, length-map net.packet_lists packet_list_key), refl)
 
-  bound_where : (given : Option (Given (List ℕ))) (b : Bool) (o : Option ListId) → b ≡ is_some given → IfSome o (λ id. IsPlace net.packet_lists id.0 × IsSome (value given)) → IfSome o (λ id. IsPlace net.packet_lists id.0 × IsTrue b)
+  bound_where : (given : Option (Given (List ℕ))) (b : Bool) (o : Option ListId) → b ≡ is_some given →
+      IfSome o (λ id. IsPlace net.packet_lists id.0 × IsSome (value given)) → IfSome o (λ id. IsPlace net.packet_lists id.0 × IsTrue b)
   bound_where given b None e h = tt
   bound_where None b (Some id) e h = absurd (false≢true h.1)
   bound_where (Some g) b (Some id) e h = (h.0, e)
@@ -184,7 +189,8 @@ module _ (doc : Document) (configs : List Config) (net : Network) (k : AreKnown 
         a_is = a.face_at;
         b_is = b.face_at;
         routers = λ e.
-            let file : a.site.config ≡ b.site.config = same_router configs a.site b.site (site_of configs l.a.0 a.site a.site_is) (site_of configs l.b.0 b.site b.site_is) (sym a.row.router ∙ e ∙ b.row.router) in
+            let file : a.site.config ≡ b.site.config = same_router configs a.site b.site (site_of configs l.a.0 a.site a.site_is) (site_of configs l.b.0 b.site b.site_is)
+            (sym a.row.router ∙ e ∙ b.row.router) in
             routers_differ m t.0 t.1 (ap (λ (n : FullName). n.0) (sym a.named) ∙ ap host_name file ∙ ap (λ (n : FullName). n.0) b.named);
       }
 

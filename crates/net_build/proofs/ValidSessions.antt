@@ -1,4 +1,4 @@
--- The sessions of a network that has the rows of its files are valid, where no interfaces overlap.
+-- The sessions of a network with the rows of its files are valid, if no interfaces overlap.
 use Rattle.std.proofs.Common.{◌≡◌, ◌≢◌, ℕ, ◌<◌, ◌⊎◌, inl, inr, Bool, true, false, Option, Some, None, List, length, get_or, refl, sym, ◌∙◌, ap, subst, arith}
 use Rattle.std.specs.Prelude.{All, AllPairs, IfSome, IsTrue, slice_get, option_map, is_some, map}
 use Rattle.std.proofs.lemmas.Bool.{cases_lt}
@@ -29,7 +29,7 @@ use Rattle.net_build.proofs.ValidRows.{AreKnown, site_at}
 use Rattle.net_rules.proofs.LinksApart.{links_apart}
 use Rattle.arc_base.proofs.Zips.{AllZip-right, AllZip-length}
 
--- an end of a link at either side
+-- the end of a link on either side is one of its ends
 ends_at : (row : LinkRow) (from_a : Bool) → EndsAt row (tail_end row from_a).0
 ends_at row true = inl refl
 ends_at row false = inr refl
@@ -38,7 +38,7 @@ far_at : (row : LinkRow) (from_a : Bool) → EndsAt row (head_end row from_a).0
 far_at row true = inr refl
 far_at row false = inl refl
 
--- links that are apart end at no common interface
+-- links that are apart have no interface in common
 one_link : (l m : LinkRow) (face : ℕ) → AreLinksApart l m → EndsAt l face → EndsAt m face → ⊥
 one_link l m face apart (inl x) (inl y) = apart.0 (x ∙ sym y)
 one_link l m face apart (inl x) (inr y) = apart.1 (x ∙ sym y)
@@ -46,7 +46,7 @@ one_link l m face apart (inr x) (inl y) = apart.2 (x ∙ sym y)
 one_link l m face apart (inr x) (inr y) = apart.3 (x ∙ sym y)
 
 module _ (doc : Document) (configs : List Config) (net : Network) (k : AreKnown doc configs net) where
-  -- the links that end at one interface are one
+  -- the links at one interface are one
   same_link : (i j face : ℕ) (l m : LinkRow) → slice_get net.links i ≡ Some l → slice_get net.links j ≡ Some m → EndsAt l face → EndsAt m face → i ≡ j
   same_link i j face l m at_l at_m of_l of_m = elim (cases_lt i j) [
     | inl lower ↦ absurd (one_link l m face (apart i j l m lower at_l at_m) of_l of_m)
@@ -62,7 +62,8 @@ module _ (doc : Document) (configs : List Config) (net : Network) (k : AreKnown 
           (subst (λ (x : LinkRow). AreLinksApart x (get_or net.links j l)) (get_or_from_slice_get net.links i l l at_l)
           (links_apart doc configs k.clear net k.rows i j l h (slice_get_within net.links j m at_m)))
 
-  filter_within : (bound : Option (List ℕ)) (router : ℕ) (b : Bool) (o : Option ListId) → b ≡ is_some bound → IsPlaceAmong (map route_list_key net.route_lists) router bound o → IfSome o (λ id. IsPlace net.route_lists id.0 × IsTrue b)
+  filter_within : (bound : Option (List ℕ)) (router : ℕ) (b : Bool) (o : Option ListId) → b ≡ is_some bound →
+      IsPlaceAmong (map route_list_key net.route_lists) router bound o → IfSome o (λ id. IsPlace net.route_lists id.0 × IsTrue b)
   filter_within bound router b None e at = tt
   filter_within None router b (Some id) e at = absurd at
   filter_within (Some name) router b (Some id) e at =
@@ -85,7 +86,8 @@ module _ (doc : Document) (configs : List Config) (net : Network) (k : AreKnown 
       face_count = AllZip-length _ (sites configs) net.faces k.rows.faces
 
   -- the subnet of an interface with this address holds it
-  holds : (address : Option (ℕ × ℕ)) (peer : ℕ) (subnet : Option Prefix) → IsSubnet address subnet → option_map (λ (a : ℕ × ℕ). a.0) address ≡ Some peer → (p : Prefix) × (subnet ≡ Some p) × Holds p peer
+  holds : (address : Option (ℕ × ℕ)) (peer : ℕ) (subnet : Option Prefix) → IsSubnet address subnet → option_map (λ (a : ℕ × ℕ). a.0) address ≡ Some peer →
+      (p : Prefix) × (subnet ≡ Some p) × Holds p peer
   holds None peer subnet of e = absurd (none-some peer e)
   holds (Some a) peer None of e = absurd of
   holds (Some a) peer (Some p) of e = (p, refl, subst (λ (n : ℕ). Holds p n) (same_Some a.0 peer e) of.1)
@@ -116,13 +118,14 @@ module _ (doc : Document) (configs : List Config) (net : Network) (k : AreKnown 
         ]
       ]
 
-  -- sessions of one router over one link are not one before the other
+  -- of two sessions of one router over one link neither comes before the other
   not_before : (r i s j : ℕ) → IsPairBefore ◌<◌ (r, i) (s, j) → r ≡ s → i ≡ j → ⊥
   not_before r i s j (inl lower) router link = omega (arith, lower, router)
   not_before r i s j (inr (same, lower)) router link = omega (arith, lower, link)
 
   module _ (clear : (i j : ℕ) (f g : FaceRow) → slice_get net.faces i ≡ Some f → slice_get net.faces j ≡ Some g → i ≢ j → AreLinked net i j ⊎ AreApart f g)
-      (i j : ℕ) (from to : Bool) (s t : SessionRow) (of_s : IsSessionOf configs net.links (map route_list_key net.route_lists) i from s) (of_t : IsSessionOf configs net.links (map route_list_key net.route_lists) j to t)
+      (i j : ℕ) (from to : Bool) (s t : SessionRow) (of_s : IsSessionOf configs net.links (map route_list_key net.route_lists) i from s)
+      (of_t : IsSessionOf configs net.links (map route_list_key net.route_lists) j to t)
       (before : IsPairBefore ◌<◌ (of_s.near.router, i) (of_t.near.router, j)) where
     faces_differ : s.face.0 ≢ t.face.0
     faces_differ same =

@@ -1,4 +1,4 @@
--- The settings of a router file are well formed: each comes from a command that is in form, and no interface stands twice.
+-- The settings of a router file are well formed: each comes from a command that is in form, and no interface occurs twice.
 use Rattle.std.proofs.Common.{◌≡◌, ℕ, zero, suc, ◌<◌, Option, Some, None, List, [], ◌∷◌, length, get_or, map, refl, sym, ◌∙◌, ap, subst, arith}
 use Rattle.std.specs.Prelude.{Contains, IfSome, All, option_map, unwrap_or, slice_get}
 use Rattle.std.specs.List.{AllZip}
@@ -29,7 +29,7 @@ use Rattle.arc_base.proofs.Zips.{AllZip-left}
 use Rattle.net_build.proofs.FacesApart.{piece_head, faces_apart}
 use Rattle.net_build.proofs.SettingForms.{face_name_form, face_form, binds_form, hostname_form, setting_form, process_lines}
 
--- the settings of commands that are in form and stand once
+-- the settings of commands that are in form and occur once
 abbrev setting : Given (List ℕ) → Setting
 setting g = record { name = g.value; line = g.line }
 

@@ -21,7 +21,7 @@ use Rattle.net_rules.specs.Rows.{AreRows}
 use Rattle.net_build.specs.Order.{tries, RefusesWithin, IsFirstOf, AreClear, Answers}
 use Rattle.net_build.specs.Places.{places_of}
 
--- each line of the text that belongs to a block has one, and each banner ends
+-- no indented line of the text is outside a block, and each banner ends
 pub record HasBlocks (text : List ℕ) : Type 0 where
   pub no_orphan : (line : ℕ) → ¬ HasOrphanAt text line
   pub no_open_banner : (line : ℕ) → ¬ HasOpenBannerAt text line
@@ -33,7 +33,7 @@ pub record Says (text : List ℕ) (config : Config) : Type 0 where
   pub are_lines : AreLinesOf text lines
   pub is_config : IsConfigOf text lines config
 
--- the text has lines and blocks, and what they say is refused at this line
+-- each line of the text has its block, and its settings are refused at this line for this reason
 pub record SaysWrong (text : List ℕ) (line : ℕ) (kind : Kind) : Type 0 where
   pub has_blocks : HasBlocks text
   pub lines : Lines
@@ -92,14 +92,14 @@ pub record IsNetworkWithin (down : List ℕ) (most_entries : ℕ) (doc : Documen
   pub rows : AreRows doc configs net
   pub clear : AreClear (RefusesWithin down most_entries doc configs) tries
 
--- the network with the lines of the files, and the places of what it is made of
+-- the network, with the lines of its files and the places in them that its parts come from
 pub record IsBuiltWithin (down : List ℕ) (most_entries : ℕ) (doc : Document) (files : List (List ℕ))
     (built : Built) : Type 0 where
   pub network : IsNetworkWithin down most_entries doc files built.net
   pub lines : AllZip AreLinesOf files built.lines
   pub places : built.places ≡ map places_of network.configs
 
--- a refusal of the network of files that all have settings
+-- the first refusal of the tries, where each file has settings
 pub record IsTriedWithin (down : List ℕ) (most_entries : ℕ) (doc : Document) (files : List (List ℕ))
     (r : Refusal) : Type 0 where
   pub configs : List Config
@@ -120,22 +120,24 @@ BuildsWithin down most_entries doc files (Err (Refused r)) =
     IsFirstRefusalWithin down most_entries doc files r
 BuildsWithin down most_entries doc files (Err Memory) = Unit {0}
 
--- the answer is the network alone, or the first reason why there is none
+-- the answer is the network alone, or the first reason why there is none, or out of memory
 abbrev pub FindsWithin : List ℕ → ℕ → Document → List (List ℕ) → Result Network NetFault → Type 0
 FindsWithin down most_entries doc files (Ok net) = IsNetworkWithin down most_entries doc files net
 FindsWithin down most_entries doc files (Err (Refused r)) =
     IsFirstRefusalWithin down most_entries doc files r
 FindsWithin down most_entries doc files (Err Memory) = Unit {0}
 
--- With no other conditions, no link is to be down, and a list has at most ENTRY_LIMIT entries: the
--- network,
+-- the network of the document and the texts of its router files, with no link to be down and at
+-- most ENTRY_LIMIT entries in a list
 abbrev pub IsNetworkOf : Document → List (List ℕ) → Network → Type 0
 IsNetworkOf doc files net = IsNetworkWithin [] ENTRY_LIMIT doc files net
 
--- the network with its lines and places,
+-- the network of the document and the texts of its router files, with its lines and places, no link
+-- to be down, and at most ENTRY_LIMIT entries in a list
 abbrev pub IsBuilt : Document → List (List ℕ) → Built → Type 0
 IsBuilt doc files built = IsBuiltWithin [] ENTRY_LIMIT doc files built
 
--- and the answer
+-- the answer on a document and the texts of its router files: the network with its lines and
+-- places, or the first reason why there is none, or out of memory
 abbrev pub Builds : Document → List (List ℕ) → Result Built NetFault → Type 0
 Builds doc files result = BuildsWithin [] ENTRY_LIMIT doc files result

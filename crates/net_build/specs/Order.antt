@@ -34,7 +34,7 @@ pub data Try : Type 0 where
   Entries : Try
   Endpoint : Try
 
--- the tries of the routers by themselves
+-- the tries of the routers
 abbrev pub router_tries : List Try
 router_tries = Hostname ∷ Protocol ∷ TwoAreas ∷ SameAs ∷ []
 
@@ -48,7 +48,7 @@ abbrev pub network_tries : List Try
 network_tries =
     Overlap ∷ LinkSubnets ∷ ListStopsSession ∷ AdjacencyForm ∷ Interfaces ∷ Entries ∷ Endpoint ∷ []
 
--- the tries in their order
+-- all tries, in their order
 abbrev pub tries : List Try
 tries = router_tries ++ (link_tries ++ network_tries)
 
@@ -71,11 +71,11 @@ RefusesWithin down most_entries doc configs Interfaces = RefusesInterfaces confi
 RefusesWithin down most_entries doc configs Entries = RefusesEntries most_entries configs
 RefusesWithin down most_entries doc configs Endpoint = RefusesEndpoint doc configs
 
--- with no other conditions, no link is to be down, and a list has at most ENTRY_LIMIT entries
+-- the refusals that a try makes, with no link to be down and at most ENTRY_LIMIT entries in a list
 abbrev pub Refuses : Document → List Config → Try → Refusal → Type 0
 Refuses doc configs = RefusesWithin [] ENTRY_LIMIT doc configs
 
--- the first refusal of some tries: the first one that the first of them makes that makes any
+-- the first refusal of some tries: the first one of the first try that makes any
 abbrev pub IsFirstOf : (Try → Refusal → Type 0) → List Try → Refusal → Type 0
 IsFirstOf Makes [] r = ⊥
 IsFirstOf Makes (t ∷ ts) r = IsFirst (Makes t) r ⊎ (IsClear (Makes t) × IsFirstOf Makes ts r)

@@ -1,4 +1,4 @@
--- The lines at which a router file has what the network is made of.
+-- The lines of a router file that the parts of the network come from.
 use Rattle.std.specs.Prelude.{map, unwrap_or, option_map}
 use Rattle.ios_config.specs.declared.settings.Config.{Config}
 use Rattle.ios_config.specs.declared.settings.FaceText.{FaceText}
@@ -21,7 +21,8 @@ list_place list = record {
   entries = map (λ g. g.line) list.entries;
 }
 
--- where these are in a file, and where its process begins and has its last command
+-- where the interfaces and lists of a file are, and where its process begins and has its last
+-- command
 abbrev pub places_of : Config → Places
 places_of config = record {
   process = unwrap_or (option_map (λ p. p.head) (process_of config)) 0;

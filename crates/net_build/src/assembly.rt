@@ -1,22 +1,22 @@
 //! The network of the settings of all files, or the first refusal of the checks in their order.
-ghost use Rattle.std.specs.Prelude.{◌≡◌, ◌≤◌, ℕ, List, All, IfOk, OnOk, length, map};
-ghost use Rattle.std.specs.List.{AllZip};
-ghost use Rattle.net_model.specs.declared.policies.Document.{Document};
-ghost use Rattle.net_model.specs.Validity.{IsValid};
-ghost use Rattle.net_rules.specs.Sites.{sites, full_names, ends_of};
-ghost use Rattle.net_rules.specs.Names.{names_at};
 ghost use Rattle.arc_base.specs.Lists.{AreDistinct};
-ghost use Rattle.net_rules.specs.Lists.{ArePacketLists, AreRouteLists, packet_list_key};
-ghost use Rattle.net_rules.specs.Lists.{route_list_key};
-ghost use Rattle.net_rules.specs.Rows.{IsFaceRow, IsLinkRow, AreBaseRows, AreRows, AreSessions};
-ghost use Rattle.net_rules.specs.Reasons.{IsClear};
-ghost use Rattle.net_rules.specs.Routers.{RefusesHostname};
-ghost use Rattle.net_rules.specs.Linking.{RefusesLinkFace};
-ghost use Rattle.net_rules.specs.Addressing.{HasEndpoints};
+ghost use Rattle.net_build.specs.Networks.{Assembles};
 ghost use Rattle.net_build.specs.Order.{RefusesWithin, Answers, router_tries, link_tries};
 ghost use Rattle.net_build.specs.Order.{network_tries};
+ghost use Rattle.net_model.specs.Validity.{IsValid};
+ghost use Rattle.net_model.specs.declared.policies.Document.{Document};
+ghost use Rattle.net_rules.specs.Addressing.{HasEndpoints};
 ghost use Rattle.net_rules.specs.Forms.{IsWellFormed};
-ghost use Rattle.net_build.specs.Networks.{Assembles};
+ghost use Rattle.net_rules.specs.Linking.{RefusesLinkFace};
+ghost use Rattle.net_rules.specs.Lists.{ArePacketLists, AreRouteLists, packet_list_key};
+ghost use Rattle.net_rules.specs.Lists.{route_list_key};
+ghost use Rattle.net_rules.specs.Names.{names_at};
+ghost use Rattle.net_rules.specs.Reasons.{IsClear};
+ghost use Rattle.net_rules.specs.Routers.{RefusesHostname};
+ghost use Rattle.net_rules.specs.Rows.{IsFaceRow, IsLinkRow, AreBaseRows, AreRows, AreSessions};
+ghost use Rattle.net_rules.specs.Sites.{sites, full_names, ends_of};
+ghost use Rattle.std.specs.List.{AllZip};
+ghost use Rattle.std.specs.Prelude.{◌≡◌, ◌≤◌, ℕ, List, All, IfOk, OnOk, length, map};
 
 use arc_base::limits::{LINK_LIMIT, POLICY_LIMIT, ROUTER_LIMIT};
 use arc_base::{List, Memory};
@@ -36,7 +36,7 @@ use row_making::{
 };
 use std::alloc::Global;
 
-/// Checks what is asked of routers by themselves.
+/// Checks hostnames, processes, areas and AS numbers.
 fn try_routers(alloc: Global, configs: &List<Config>) -> Result<(), NetFault>
     requires { length configs.now ≤ ROUTER_LIMIT }
     ensures { (down : List ℕ) (most : ℕ) (doc : Document) →
@@ -87,7 +87,7 @@ fn sessions_of(
     session_rows(alloc, net, configs, &lists)
 }
 
-/// The rows of the network over these links, except for the sessions.
+/// The rows of the network over these links, without the sessions.
 fn rows(
     alloc: Global,
     configs: &List<Config>,
@@ -116,8 +116,8 @@ fn rows(
     })
 }
 
-/// The network, once the routers are tried: or the first refusal of the links and of what is on
-/// them.
+/// The network of routers that passed their checks, or the first refusal of the links, of those to
+/// be down, of neighbours and of `network` lines.
 fn joined(
     alloc: Global,
     doc: &Document,
@@ -143,7 +143,8 @@ fn joined(
     Ok(net)
 }
 
-/// Checks what is asked of the network of valid links.
+/// Checks the network once its links are valid: overlaps, subnets, lists, adjacencies, interfaces,
+/// entries and endpoints.
 fn try_network(
     alloc: Global,
     doc: &Document,
@@ -175,7 +176,7 @@ fn try_network(
 }
 
 /// The network of a document and of the settings of the files that it names, in the document's
-/// order.
+/// order, or the first refusal.
 pub fn assemble(
     alloc: Global,
     doc: &Document,

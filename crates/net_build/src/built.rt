@@ -1,11 +1,11 @@
-//! A network with the lines of its files, and where they say what it is made of.
+//! A network, the lines of its files, and where in them its parts come from.
 
 use arc_base::{List, Name};
 use ios_config::ListForm;
 use ios_lines::Lines;
 use net_model::Network;
 
-/// A network, and where its files say what it is made of. All places are numbers of lines.
+/// A network, and where in its files its parts come from. All places are line numbers.
 #[derive(Debug, Drop)]
 pub struct Built {
     pub net: Network,
@@ -15,7 +15,7 @@ pub struct Built {
     pub places: List<Places>,
 }
 
-/// Where a router file says what its router is.
+/// The lines of a router file that the parts of its router come from.
 #[derive(Debug, Drop)]
 pub struct Places {
     /// The line that heads the process block.
@@ -24,7 +24,7 @@ pub struct Places {
     pub process_last: u32,
     /// In file order, as the interfaces of the network.
     pub faces: List<FacePlace>,
-    /// In the order of their first lines, whether they are bound or not.
+    /// In the order of their first lines, bound or not.
     pub lists: List<ListPlace>,
 }
 

@@ -1,6 +1,6 @@
 //! Each router file by itself: its lines and its settings.
-ghost use Rattle.std.specs.Prelude.{◌≤◌, ◌+◌, ◌<◌, ◌^◌, length, All};
 ghost use Rattle.net_build.specs.Networks.{ReadsConfigs, ReadsFile, ReadsFiles};
+ghost use Rattle.std.specs.Prelude.{◌≤◌, ◌+◌, ◌<◌, ◌^◌, length, All};
 
 use arc_base::limits::ROUTER_LIMIT;
 use arc_base::{Kind, List, Name};
@@ -43,7 +43,7 @@ fn read_file(alloc: Global, place: usize, text: &[u8]) -> Result<ReadFile, NetFa
     }
 }
 
-/// Reads all router files, or names the first that is none.
+/// Reads all router files, or gives the first refusal.
 pub fn read_files(alloc: Global, files: &List<Name>) -> Result<ReadFiles, NetFault>
     requires few { All (λ text. length text < 2 ^ 32) files.now }
     requires count { length files.now ≤ ROUTER_LIMIT }
@@ -59,7 +59,7 @@ pub fn read_files(alloc: Global, files: &List<Name>) -> Result<ReadFiles, NetFau
     Ok(ReadFiles { lines, configs })
 }
 
-/// Reads the settings of all router files, or names the first that has none. Each file's lines are
+/// Reads the settings of all router files, or gives the first refusal. Each file's lines are
 /// dropped before the next file is read.
 pub fn read_configs(alloc: Global, files: &List<Name>) -> Result<List<Config>, NetFault>
     requires few { All (λ text. length text < 2 ^ 32) files.now }

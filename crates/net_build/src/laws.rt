@@ -1,19 +1,19 @@
 //! Laws over the definitions alone: each is the contract of a function that does nothing.
 ghost use Rattle.std.specs.Prelude.{◌≡◌, ◌≤◌, List, ℕ};
 ghost use Rattle.arc_base.specs.declared.refusal.Kind.TheVariants as kinds;
-ghost use Rattle.net_doc.specs.declared.fault.Refusal.{Refusal};
-ghost use Rattle.net_model.specs.declared.policies.Document.{Document};
-ghost use Rattle.net_model.specs.declared.rows.Network.{Network};
 ghost use Rattle.net_build.specs.Appends.{ABindingLineCounts, ANeighborLineCounts};
 ghost use Rattle.net_build.specs.Appends.{APassiveLineCounts};
 ghost use Rattle.net_build.specs.Networks.{IsNetworkOf, IsNetworkWithin, IsBuilt, IsBuiltWithin};
 ghost use Rattle.net_build.specs.Networks.{IsFirstRefusalWithin};
 ghost use Rattle.net_build.specs.declared.built.Built.{Built};
+ghost use Rattle.net_doc.specs.declared.fault.Refusal.{Refusal};
+ghost use Rattle.net_model.specs.declared.policies.Document.{Document};
+ghost use Rattle.net_model.specs.declared.rows.Network.{Network};
 
 use arc_base::limits::ENTRY_LIMIT;
 
-/// A document and its files have one network at most, or one first refusal, and never both:
-/// whatever links are to be down, and however many entries a list may have.
+/// A document and its files have at most one network or one first refusal, never both, whichever
+/// links are to be down and however many entries a list may have.
 pub fn files_have_one_answer()
     ensures one_network { (down : List ℕ) (most : ℕ) (doc : Document) (files : List (List ℕ))
         (net other : Network) →
@@ -28,7 +28,7 @@ pub fn files_have_one_answer()
         IsNetworkWithin down most doc files net → IsFirstRefusalWithin down most doc files r → ⊥ }
 {}
 
-/// No refusal says that a file is missing or too long: that is for those to say who read the files.
+/// No refusal here says that a file is missing or too long: whoever reads the files reports that.
 pub fn refusals_are_of_what_files_say()
     ensures never_missing { (down : List ℕ) (most : ℕ) (doc : Document) (files : List (List ℕ))
         (r : Refusal) → IsFirstRefusalWithin down most doc files r → r.kind ≡ kinds.Missing → ⊥ }
@@ -48,7 +48,7 @@ pub fn asking_more_changes_no_network()
 {}
 
 /// The last line of a process counts: an interface is passive, a neighbour shut down or its list
-/// bound as the last line about it says, and one line more changes nothing else.
+/// bound as the last line about it says, and one more line changes nothing else.
 pub fn the_last_line_counts()
     ensures passive { APassiveLineCounts }
     ensures neighbor { ANeighborLineCounts }

@@ -1,7 +1,6 @@
 //! The network of a document and its router files, or the first reason why there is none. Each file
-//! is read by itself. Then the rows are made and the reasons to refuse them are tried, in one
-//! order, by the crates below: `row_making` and `net_checks`, both over the definitions of
-//! `net_rules`.
+//! is read by itself. Then the rows are made and checked, in one fixed order, by the crates below:
+//! `row_making` and `net_checks`, both over the definitions of `net_rules`.
 #![tactic(auto)]
 
 mod assembly;

@@ -1,10 +1,10 @@
 //! From the document and the texts of its router files to their network, or the first refusal.
-ghost use Rattle.std.specs.Prelude.{◌≡◌, ◌≤◌, ◌^◌, ◌<◌, None, length, All, IfOk};
-ghost use Rattle.net_model.specs.Validity.{IsValid};
-ghost use Rattle.net_model.specs.Packets.{subject};
-ghost use Rattle.net_model.specs.Forwarding.{HasEnds};
-ghost use Rattle.net_rules.specs.Linking.{first_above};
 ghost use Rattle.net_build.specs.Networks.{Builds, BuildsWithin, FindsWithin};
+ghost use Rattle.net_model.specs.Forwarding.{HasEnds};
+ghost use Rattle.net_model.specs.Packets.{subject};
+ghost use Rattle.net_model.specs.Validity.{IsValid};
+ghost use Rattle.net_rules.specs.Linking.{first_above};
+ghost use Rattle.std.specs.Prelude.{◌≡◌, ◌≤◌, ◌^◌, ◌<◌, None, length, All, IfOk};
 
 use crate::assembly::assemble;
 use crate::built::Built;
@@ -34,11 +34,10 @@ pub fn network(alloc: Global, doc: &Document, files: &List<Name>) -> Result<Buil
 }
 
 /// The network of the document and of the texts of its router files, in the document's order, or
-/// the first refusal. First each file is read by itself, one after another. Then what they say
-/// together is tried, one reason after another. Links that are to be down are given by their
-/// numbers in the document, counted from 1: that each of them is a link's is tried right after the
-/// links, and the network is the one with them up. No list may have more than `most_entries`
-/// entries.
+/// the first refusal. Each file is read by itself first, one after another; then the checks across
+/// the files run in one fixed order. `down` has the numbers of links in the document, counted from
+/// 1: that each is the number of a link is checked right after the links, and the network is the
+/// one with them up. No list may have more than `most_entries` entries.
 pub fn network_within(
     alloc: Global,
     doc: &Document,
@@ -67,8 +66,8 @@ pub fn network_within(
     })
 }
 
-/// The network of `network_within` alone. Of the router files' lines only those of one file are
-/// held at a time, so that the memory is that of the largest file and of the settings of all.
+/// The network of `network_within` alone. The lines of one file at a time are in memory, so the
+/// memory needed is that of the largest file and of the settings of all.
 pub fn network_alone(
     alloc: Global,
     doc: &Document,

@@ -1,7 +1,7 @@
-//! Where each router file says what the network is made of.
-ghost use Rattle.std.specs.Prelude.{◌≡◌, IfOk, map, unwrap_or, option_map};
-ghost use Rattle.net_rules.specs.Settings.{process_of};
+//! The lines that the parts of the network come from, file by file.
 ghost use Rattle.net_build.specs.Places.{face_place, list_place, places_of};
+ghost use Rattle.net_rules.specs.Settings.{process_of};
+ghost use Rattle.std.specs.Prelude.{◌≡◌, IfOk, map, unwrap_or, option_map};
 
 use crate::built::{FacePlace, ListPlace, Places};
 use arc_base::{List, Memory, Name};

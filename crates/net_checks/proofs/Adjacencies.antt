@@ -38,7 +38,8 @@ one_type None x point is has = absurd (none-some x (sym is))
 one_type (Some site) x point is has = same_Some x (is_point_to_point site.face) is ∙ has
 
 -- the test of two types tells whether they differ
-pub test_types : (configs : List Config) (link : LinkRow) (x y : Bool) → Some x ≡ type_of (slice_get (sites configs) link.a.0) → Some y ≡ type_of (slice_get (sites configs) link.b.0) → IsTrue (not (beq x y)) ↔ TypesDiffer configs link
+pub test_types : (configs : List Config) (link : LinkRow) (x y : Bool) → Some x ≡ type_of (slice_get (sites configs) link.a.0) →
+    Some y ≡ type_of (slice_get (sites configs) link.b.0) → IsTrue (not (beq x y)) ↔ TypesDiffer configs link
 test_types configs link x y of_a of_b = (there x y (has_type (slice_get (sites configs) link.a.0) x of_a) (has_type (slice_get (sites configs) link.b.0) y of_b), back)
   where
     there : (p q : Bool) → Has (slice_get (sites configs) link.a.0) p → Has (slice_get (sites configs) link.b.0) q → IsTrue (not (beq p q)) → TypesDiffer configs link
@@ -84,7 +85,8 @@ module _ (doc : Document) (configs : List Config) (distinct : AreDistinct (full_
   types_fail Memory said = tt
 
   -- where the links are clear, the files decide
-  pub ids_decide : IsClear (InDocument kinds.AdjacencyForm (DiffersAt configs) net.links) → (result : Result (Unit {0}) NetFault) → TriedAlone (InFiles kinds.AdjacencyForm (Repeats router_id_of configs) configs) result → TriedAlone (RefusesAdjacencyForm doc configs) result
+  pub ids_decide : IsClear (InDocument kinds.AdjacencyForm (DiffersAt configs) net.links) → (result : Result (Unit {0}) NetFault) →
+      TriedAlone (InFiles kinds.AdjacencyForm (Repeats router_id_of configs) configs) result → TriedAlone (RefusesAdjacencyForm doc configs) result
   ids_decide clear result said = tried_same (InFiles kinds.AdjacencyForm (Repeats router_id_of configs) configs) (RefusesAdjacencyForm doc configs) (λ (done : Unit {0}). Unit {0}) result to from said
     where
       to : (r : Refusal) → InFiles kinds.AdjacencyForm (Repeats router_id_of configs) configs r → RefusesAdjacencyForm doc configs r

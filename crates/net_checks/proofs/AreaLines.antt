@@ -40,7 +40,8 @@ no_first_area items n past none area first =
     let empty : areas_of first.config ≡ [] = none first.place first.config (omega (arith, slice_get_within items first.place first.config first.at_place, past)) first.at_place in
     Contains-none first.given (subst (λ (l : List (Given ℕ)). Contains l first.given) empty first.named)
 
-pub is_first_area : (items : List Config) (n : ℕ) (config : Config) (given : Given ℕ) → n < length items → config ≡ get_or items n config → NoAreaTo items n → IsSoonest (areas_of config) (Some given) → IsFirstArea items given.value
+pub is_first_area : (items : List Config) (n : ℕ) (config : Config) (given : Given ℕ) → n < length items → config ≡ get_or items n config → NoAreaTo items n →
+    IsSoonest (areas_of config) (Some given) → IsFirstArea items given.value
 is_first_area items n config given within is none soonest = record {
   place = n;
   config = config;
@@ -85,7 +86,15 @@ module _ (configs : List Config) (area : ℕ) (is_first : IsFirstArea configs ar
       elim (eqb_tells given.value area) [
         | inr other ↦ record {
           refusal = s;
-          other = record { place = bad.place; item = bad.item; at_place = bad.at_place; number = bad.number; offends = (k, given, bad.offends.other.2, bad.offends.other.3, (line, other.1)); told = bad.told };
+          other = record {
+            place = bad.place;
+            item = bad.item;
+            at_place = bad.at_place;
+            number = bad.number;
+            offends =
+                (k, given, bad.offends.other.2, bad.offends.other.3, (line, other.1));
+            told = bad.told;
+          };
           no_later = same_not_before s;
         }
         | inl same ↦
@@ -96,7 +105,15 @@ module _ (configs : List Config) (area : ℕ) (is_first : IsFirstArea configs ar
             let number : s.number ≡ bad.number = ap (λ (t : Refusal). t.number) bad.told in
             record {
               refusal = r;
-              other = record { place = first.place; item = first.config; at_place = first.at_place; number = first.given.line; offends = (first.named.0, first.given, first.named.1, first.named.2, (refl, value)); told = refl };
+              other = record {
+                place = first.place;
+                item = first.config;
+                at_place = first.at_place;
+                number = first.given.line;
+                offends =
+                    (first.named.0, first.given, first.named.1, first.named.2, (refl, value));
+                told = refl;
+              };
               no_later = λ before. first.first bad.place bad.item given bad.at_place there (earlier given first file number line before);
             }
       ]
@@ -143,7 +160,8 @@ pub none_refused : (configs : List Config) → ((area : ℕ) → ¬ IsFirstArea 
 none_refused configs none s bad = none bad.offends.first bad.offends.is_first
 
 -- one more area
-pub soonest_more : (xs : List (Given ℕ)) (n : ℕ) (d : Given ℕ) (first : Option (Given ℕ)) (y : Given ℕ) → n < length xs → IsSoonest (take n xs) first → y ≡ sooner first (get_or xs n d) → IsSoonest (take (n + 1) xs) (Some y)
+pub soonest_more : (xs : List (Given ℕ)) (n : ℕ) (d : Given ℕ) (first : Option (Given ℕ)) (y : Given ℕ) → n < length xs → IsSoonest (take n xs) first →
+    y ≡ sooner first (get_or xs n d) → IsSoonest (take (n + 1) xs) (Some y)
 soonest_more xs n d first y within was is = by first was is
   where
     grown : take (n + 1) xs ≡ take n xs ++ get_or xs n d ∷ []
@@ -194,13 +212,15 @@ other_least area given = elim (eqb_tells given.value area) [
       subst (λ (o : Option ℕ). FindsLeast (λ line. IsOther area line given) o) (sym some) (record { has = (refl, other.1); least = λ m h. omega (arith, h.0) })
 ]
 
-pub other_more : (area : ℕ) (xs : List (Given ℕ)) (n : ℕ) (d : Given ℕ) (found now : Option ℕ) → n < length xs → FindsLeast (LinesTo (IsOther area) xs n) found → now ≡ line_of_other area (get_or xs n d) →
+pub other_more : (area : ℕ) (xs : List (Given ℕ)) (n : ℕ) (d : Given ℕ) (found now : Option ℕ) → n < length xs →
+    FindsLeast (LinesTo (IsOther area) xs n) found → now ≡ line_of_other area (get_or xs n d) →
     FindsLeast (LinesTo (IsOther area) xs (n + 1)) (lesser found now)
 other_more area xs n d found now within before is =
     least_more (IsOther area) xs n (get_or xs n d) found now within (get_or_default xs n d (get_or xs n d) within) before
     (subst (λ (o : Option ℕ). FindsLeast (λ line. IsOther area line (get_or xs n d)) o) (sym is) (other_least area (get_or xs n d)))
 
 -- where nothing was found, no area is the first
-pub none_found : (configs : List Config) (found : Option ℕ) → MatchOption found ((area : ℕ) → ¬ IsFirstArea configs area) (IsFirstArea configs) → ((area : ℕ) → ¬ (found ≡ Some area)) → (area : ℕ) → ¬ IsFirstArea configs area
+pub none_found : (configs : List Config) (found : Option ℕ) → MatchOption found ((area : ℕ) → ¬ IsFirstArea configs area) (IsFirstArea configs) →
+    ((area : ℕ) → ¬ (found ≡ Some area)) → (area : ℕ) → ¬ IsFirstArea configs area
 none_found configs None said none = said
 none_found configs (Some area) said none = absurd (none area refl)

@@ -12,7 +12,8 @@ use Rattle.net_rules.proofs.Gathered.{gathered_none}
 use Rattle.net_rules.proofs.SameRows.{one_subnet}
 
 -- the subnet of one more interface
-pub subnet_added : (face : FaceText) (old new : List (ℕ × ℕ)) (address : Option (ℕ × ℕ)) (found : Option Prefix) (subnet : Prefix) → address ≡ address_of face → IsSubnet address found → found ≡ Some subnet →
+pub subnet_added : (face : FaceText) (old new : List (ℕ × ℕ)) (address : Option (ℕ × ℕ)) (found : Option Prefix) (subnet : Prefix) → address ≡ address_of face →
+    IsSubnet address found → found ≡ Some subnet →
     ((q : Prefix) → HasPrefix new q ↔ (HasPrefix old q ⊎ (subnet ≡ q))) → (q : Prefix) → HasPrefix new q ↔ (HasPrefix old q ⊎ IsConnectedAt face q)
 subnet_added face old new address found subnet at is some grown q = (λ h. to ((grown q).0 h), λ h. (grown q).1 (from h))
   where

@@ -1,5 +1,6 @@
 -- The claims of interfaces are linked or apart exactly where no interfaces overlap.
-use Rattle.std.proofs.Common.{◌≡◌, ◌≢◌, ℕ, zero, suc, ◌<◌, ◌≤◌, ◌⊎◌, inl, inr, Bool, true, false, MatchBool, Option, Some, None, List, [], ◌∷◌, ◌++◌, ◌+◌, length, get_or, take, refl, sym, ◌∙◌, ap, subst, arith}
+use Rattle.std.proofs.Common.{◌≡◌, ◌≢◌, ℕ, zero, suc, ◌<◌, ◌≤◌, ◌⊎◌, inl, inr, Bool, true, false, MatchBool, Option}
+use Rattle.std.proofs.Common.{Some, None, List, [], ◌∷◌, ◌++◌, ◌+◌, length, get_or, take, refl, sym, ◌∙◌, ap, subst, arith}
 use Rattle.std.specs.Prelude.{AllPairs, IfSome, slice_get, option_map}
 use Rattle.std.specs.List.{cons_option}
 use Rattle.std.proofs.lemmas.Bool.{cases_lt}
@@ -119,7 +120,8 @@ module _ (net : Network) (partners : List ℕ) (are : ArePartners (length net.li
     claims_from_clear clear a b d l m = to_claims (get_or claims a d) (get_or claims b d) (claim_at a d (omega arith)) (claim_at b d m) (known.apart a b d l m) clear
 
     -- what is between two claims is between their interfaces
-    from_claims : (x y : Claim) (f g : FaceRow) → IsClaimOf (take n net.faces) partners x → x.place ≢ y.place → f.subnet ≡ Some x.subnet → g.subnet ≡ Some y.subnet → AreLinkedOrApart x y → AreLinked net x.place y.place ⊎ AreApart f g
+    from_claims : (x y : Claim) (f g : FaceRow) → IsClaimOf (take n net.faces) partners x → x.place ≢ y.place → f.subnet ≡ Some x.subnet →
+        g.subnet ≡ Some y.subnet → AreLinkedOrApart x y → AreLinked net x.place y.place ⊎ AreApart f g
     from_claims x y f g of_x differ f_is g_is (inl partner) = inl (partner_linked x.place y.place differ (of_x.partner ∙ ap Some partner))
     from_claims x y f g of_x differ f_is g_is (inr disjoint) = inr (apart_from f g x.subnet y.subnet f_is g_is disjoint)
 
@@ -140,12 +142,14 @@ module _ (net : Network) (partners : List ℕ) (are : ArePartners (length net.li
             elim (cases_lt x.1.0 y.1.0) [
               | inl before ↦
                   let pair : AreLinkedOrApart x.0 y.0 =
-                  subst (λ (c : Claim). AreLinkedOrApart x.0 c) (get_or_default claims y.1.0 x.0 y.0 y.1.1 ∙ y.1.2) (subst (λ (c : Claim). AreLinkedOrApart c (get_or claims y.1.0 x.0)) x.1.2 (free x.1.0 y.1.0 x.0 before y.1.1)) in
+                  subst (λ (c : Claim). AreLinkedOrApart x.0 c) (get_or_default claims y.1.0 x.0 y.0 y.1.1 ∙ y.1.2)
+                  (subst (λ (c : Claim). AreLinkedOrApart c (get_or claims y.1.0 x.0)) x.1.2 (free x.1.0 y.1.0 x.0 before y.1.1)) in
                   moved x.0 y.0 x.2 y.2 (from_claims x.0 y.0 f g of_x differ f_sub g_sub pair)
               | inr not_before ↦ elim (cases_lt y.1.0 x.1.0) [
                 | inl after ↦
                     let pair : AreLinkedOrApart y.0 x.0 =
-                    subst (λ (c : Claim). AreLinkedOrApart y.0 c) (get_or_default claims x.1.0 y.0 x.0 x.1.1 ∙ x.1.2) (subst (λ (c : Claim). AreLinkedOrApart c (get_or claims x.1.0 y.0)) y.1.2 (free y.1.0 x.1.0 y.0 after x.1.1)) in
+                    subst (λ (c : Claim). AreLinkedOrApart y.0 c) (get_or_default claims x.1.0 y.0 x.0 x.1.1 ∙ x.1.2)
+                    (subst (λ (c : Claim). AreLinkedOrApart c (get_or claims x.1.0 y.0)) y.1.2 (free y.1.0 x.1.0 y.0 after x.1.1)) in
                     turned x.0 y.0 x.2 y.2 (from_claims y.0 x.0 g f of_y (λ e. differ (sym e)) g_sub f_sub pair)
                 | inr same ↦
                     let one : x.1.0 ≡ y.1.0 = omega (arith, not_before, same) in
@@ -177,7 +181,8 @@ module _ (net : Network) (partners : List ℕ) (are : ArePartners (length net.li
     clear_by_claims false overlap = λ clear. overlap (claims_from_clear clear)
 
 -- one more interface
-pub claims_more : (faces : List FaceRow) (partners : List ℕ) (claims next : List Claim) (n partner : ℕ) (face : FaceRow) → n < length faces → face ≡ get_or faces n face → slice_get partners n ≡ Some partner →
+pub claims_more : (faces : List FaceRow) (partners : List ℕ) (claims next : List Claim) (n partner : ℕ) (face : FaceRow) → n < length faces →
+    face ≡ get_or faces n face → slice_get partners n ≡ Some partner →
     AreClaimsOf (take n faces) partners claims → next ≡ claims ++ cons_option (claim_of face n partner) [] → AreClaimsOf (take (n + 1) faces) partners next
 claims_more faces partners claims next n partner face within is at_partner old grown = by face.subnet refl
   where
@@ -204,7 +209,8 @@ claims_more faces partners claims next n partner face within is at_partner old g
 
     by : (o : Option Prefix) → face.subnet ≡ o → AreClaimsOf (take (n + 1) faces) partners next
     by None none =
-        let same : next ≡ claims = grown ∙ ap (λ (p : Option Prefix). claims ++ cons_option (option_map (λ (q : Prefix). record { subnet = q; place = n; partner = partner }) p) []) none ∙ append-nil claims in
+        let same : next ≡ claims = grown ∙ ap (λ (p : Option Prefix). claims ++ cons_option (option_map (λ (q : Prefix). record { subnet = q; place = n; partner = partner }) p) []) none
+        ∙ append-nil claims in
         subst (λ (l : List Claim). AreClaimsOf (take (n + 1) faces) partners l) (sym same) (record {
           each = λ claim there. kept claim (old.each claim there);
           all = λ place f p at sub. elim (which place f at) [
@@ -215,7 +221,8 @@ claims_more faces partners claims next n partner face within is at_partner old g
         })
     by (Some q) some =
         let claim : Claim = record { subnet = q; place = n; partner = partner } in
-        let same : next ≡ claims ++ claim ∷ [] = grown ∙ ap (λ (p : Option Prefix). claims ++ cons_option (option_map (λ (q : Prefix). record { subnet = q; place = n; partner = partner }) p) []) some in
+        let same : next ≡ claims ++ claim ∷ [] =
+        grown ∙ ap (λ (p : Option Prefix). claims ++ cons_option (option_map (λ (q : Prefix). record { subnet = q; place = n; partner = partner }) p) []) some in
         let of_claim : IsClaimOf (take (n + 1) faces) partners claim = record { face = face; at_place = now; subnet = some; partner = at_partner } in
         subst (λ (l : List Claim). AreClaimsOf (take (n + 1) faces) partners l) (sym same) (record {
           each = λ c there. elim (Contains-append_cases claims (claim ∷ []) c there) [

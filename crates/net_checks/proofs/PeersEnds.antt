@@ -137,7 +137,8 @@ says_if (commands.Covers a b) peer = (λ h. absurd (no_some ℕ h), λ e. absurd
 says_if (commands.Passive a b) peer = (λ h. absurd (no_some ℕ h), λ e. absurd (none-some peer e))
 says_if (commands.Reference a) peer = (λ h. absurd (no_some ℕ h), λ e. absurd (none-some peer e))
 says_if (commands.RouterId a) peer = (λ h. absurd (no_some ℕ h), λ e. absurd (none-some peer e))
-says_if (commands.RemoteAs other asn) peer = (λ h. ap Some (says_other peer other asn h), λ e. subst (λ (p : ℕ). IsSome (says_remote peer (commands.RemoteAs p asn))) (same_Some peer other (sym e)) (says_own peer asn))
+says_if (commands.RemoteAs other asn) peer =
+    (λ h. ap Some (says_other peer other asn h), λ e. subst (λ (p : ℕ). IsSome (says_remote peer (commands.RemoteAs p asn))) (same_Some peer other (sym e)) (says_own peer asn))
 says_if (commands.NeighborDown a b) peer = (λ h. absurd (no_some ℕ h), λ e. absurd (none-some peer e))
 says_if (commands.NeighborList a b) peer = (λ h. absurd (no_some ℕ h), λ e. absurd (none-some peer e))
 says_if (commands.Tells a) peer = (λ h. absurd (no_some ℕ h), λ e. absurd (none-some peer e))

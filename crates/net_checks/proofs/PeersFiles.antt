@@ -94,7 +94,8 @@ module _ (doc : Document) (configs : List Config) (net : Network) (base : AreBas
       let at_k : slice_get net.links k ≡ Some link = slice_get-get_or net.links k link l ∙ ap Some e in
       let text = AllZip-left (IsLinkRow (full_names configs)) doc.links net.links base.links k link at_k in
       elim leads [
-        | inl ahead ↦ leads_far place peer config at link.a link.b (a_end text.0) (b_end text.0) text.2.a text.2.b (record { link = text.0; place = k; at_place = text.1; ends = inl (refl, refl) }) ahead
+        | inl ahead ↦ leads_far place peer config at link.a link.b (a_end text.0) (b_end text.0) text.2.a text.2.b
+            (record { link = text.0; place = k; at_place = text.1; ends = inl (refl, refl) }) ahead
         | inr back ↦ leads_far place peer config at link.b link.a (b_end text.0) (a_end text.0) text.2.b text.2.a (record { link = text.0; place = k; at_place = text.1; ends = inr (refl, refl) }) back
       ]
 
@@ -123,7 +124,8 @@ module _ (doc : Document) (configs : List Config) (net : Network) (base : AreBas
       (f.joined.place, row.0, slice_get_within net.links f.joined.place row.0 row.1, get_or_from_slice_get net.links f.joined.place row.0 row.0 row.1, by row.0 row.2 f.joined.ends)
     where
       by : (row : LinkRow) → IsLinkRow (full_names configs) f.joined.link row →
-          ((a_end f.joined.link ≡ (host_name config, f.near.name)) × (b_end f.joined.link ≡ full_name f.far)) ⊎ ((b_end f.joined.link ≡ (host_name config, f.near.name)) × (a_end f.joined.link ≡ full_name f.far)) →
+          ((a_end f.joined.link ≡ (host_name config, f.near.name)) × (b_end f.joined.link ≡ full_name f.far)) ⊎ ((b_end f.joined.link ≡ (host_name config, f.near.name)) × (a_end
+          f.joined.link ≡ full_name f.far)) →
           LinkLeadsTo net.faces (place, peer) row
       by row is (inl e) = inl (far_leads place peer config at f row.a row.b (is.a ∙ ap Some e.0) (is.b ∙ ap Some e.1))
       by row is (inr e) = inr (far_leads place peer config at f row.b row.a (is.b ∙ ap Some e.0) (is.a ∙ ap Some e.1))

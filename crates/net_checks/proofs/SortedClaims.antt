@@ -159,7 +159,8 @@ pub free_by_sorting : (xs ys : List Claim) (answer : Bool) → IsPermutation xs 
 free_by_sorting xs ys true moved sorted partners says =
     let partners_sorted : AreOfPartners ys = AllPairs-permutation OfPartners turn_partners xs ys moved partners in
     let free_sorted : AllPairs AreLinkedOrApart ys = all_free ys sorted partners_sorted (says.0 refl) in
-    let both : AllPairs LinkedOrApartBothWays xs = AllPairs-permutation LinkedOrApartBothWays turn_both ys xs (IsPermutation-sym xs ys moved) (λ i j d l m. (free_sorted i j d l m, partners_sorted i j d l m)) in
+    let both : AllPairs LinkedOrApartBothWays xs = AllPairs-permutation LinkedOrApartBothWays turn_both ys xs (IsPermutation-sym xs ys moved)
+    (λ i j d l m. (free_sorted i j d l m, partners_sorted i j d l m)) in
     λ i j d l m. (both i j d l m).0
 free_by_sorting xs ys false moved sorted partners says =
     λ all.

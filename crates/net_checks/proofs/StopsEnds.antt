@@ -81,8 +81,13 @@ module _ (doc : Document) (configs : List Config) (net : Network) (distinct : Ar
         between = record { at_tail = bad.is_arc.tail; at_head = bad.is_arc.head; able_tail = bad.able.tail; able_head = bad.able.head; stops = bad.stops };
         refusal = record { site = bad.site; at_place = bad.at_head; told = told };
       } in
-      let there : StopsAtSome bad.net configs bad.net.links r =
-      (bad.arc.link, bad.arc.row, slice_get_within bad.net.links bad.arc.link bad.arc.row bad.is_arc.link, get_or_from_slice_get bad.net.links bad.arc.link bad.arc.row bad.arc.row bad.is_arc.link, (bad.arc.from_a, stops)) in
+      let there : StopsAtSome bad.net configs bad.net.links r = (
+        bad.arc.link,
+        bad.arc.row,
+        slice_get_within bad.net.links bad.arc.link bad.arc.row bad.is_arc.link,
+        get_or_from_slice_get bad.net.links bad.arc.link bad.arc.row bad.arc.row bad.is_arc.link,
+        (bad.arc.from_a, stops),
+      ) in
       subst (λ (m : Network). StopsAtSome m configs m.links r) (same_rows doc configs distinct bad.net net bad.rows rows) there
 
   pub clear_stops : ((r : Refusal) → ¬ StopsAtSome net configs net.links r) → IsClear (RefusesListStopsSession doc configs)

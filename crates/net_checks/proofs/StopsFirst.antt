@@ -1,5 +1,6 @@
 -- The first of the refusals that are found one after another.
-use Rattle.std.proofs.Common.{◌≡◌, ℕ, ◌+◌, ◌<◌, ◌⊎◌, inl, inr, Option, Some, None, List, [], length, get_or, take, refl, sym, ◌∙◌, subst, arith, Bool, true, false, ◌&&◌, Decides, nat_lt, nat_eq, if◌then◌else◌}
+use Rattle.std.proofs.Common.{◌≡◌, ℕ, ◌+◌, ◌<◌, ◌⊎◌, inl, inr, Option, Some, None, List, [], length, get_or}
+use Rattle.std.proofs.Common.{take, refl, sym, ◌∙◌, subst, arith, Bool, true, false, ◌&&◌, Decides, nat_lt, nat_eq, if◌then◌else◌}
 use Rattle.std.specs.Prelude.{Any}
 use Rattle.std.proofs.lemmas.Bool.{cases_lt, false≢true}
 use Rattle.std.proofs.lemmas.Bool.Decides.{Decides-and, Decides-or, Decides-eqb, Decides-ltb}

@@ -1,16 +1,16 @@
 //! What two routers must have alike or different to become neighbours: network types and router
 //! ids.
-ghost use Rattle.std.specs.Prelude.{◌≡◌, ◌≤◌, ◌↔◌, length, None, IsTrue, option_map, slice_get};
+ghost use Rattle.arc_base.specs.Lists.{AreDistinct};
 ghost use Rattle.net_rules.specs.Settings.{is_point_to_point};
 ghost use Rattle.net_rules.specs.Sites.{full_names, sites};
-ghost use Rattle.arc_base.specs.Lists.{AreDistinct};
+ghost use Rattle.std.specs.Prelude.{◌≡◌, ◌≤◌, ◌↔◌, length, None, IsTrue, option_map, slice_get};
 ghost use Rattle.arc_base.specs.declared.refusal.Kind.TheVariants as kinds;
 ghost use Rattle.net_model.specs.declared.policies.Document.{Document};
-ghost use Rattle.net_rules.specs.Reasons.{TriedAlone, InFiles, InDocument};
-ghost use Rattle.net_rules.specs.Rows.{AreRows};
 ghost use Rattle.net_rules.specs.Linking.{RefusesAdjacencyForm, TypesDiffer, says_router_id};
 ghost use Rattle.net_rules.specs.Linking.{router_id_line, router_id_of};
+ghost use Rattle.net_rules.specs.Reasons.{TriedAlone, InFiles, InDocument};
 ghost use Rattle.net_rules.specs.Routers.{Repeats};
+ghost use Rattle.net_rules.specs.Rows.{AreRows};
 ghost use Rattle.std.specs.List.{filter_map, last_or};
 
 use crate::repeats::add_given;

@@ -1,12 +1,12 @@
 //! The OSPF areas that the files name: one in all.
-ghost use Rattle.std.specs.Prelude.{◌≡◌, [], ◌++◌, ◌≤◌, ◌<◌, ℕ, length, IfOk, OnOk, MatchOption};
-ghost use Rattle.std.specs.Prelude.{Any};
-ghost use Rattle.std.specs.List.{filter_map, cons_option};
 ghost use Rattle.ios_config.specs.Least.{FindsLeast};
-ghost use Rattle.net_rules.specs.Reasons.{TriedAlone};
 ghost use Rattle.net_checks.specs.Growing.{sooner, IsSoonest, line_of_other};
+ghost use Rattle.net_rules.specs.Reasons.{TriedAlone};
 ghost use Rattle.net_rules.specs.Routers.{RefusesTwoAreas, area_of_command, line_area, face_area};
 ghost use Rattle.net_rules.specs.Routers.{areas_of, IsFirstArea, IsOther};
+ghost use Rattle.std.specs.List.{filter_map, cons_option};
+ghost use Rattle.std.specs.Prelude.{◌≡◌, [], ◌++◌, ◌≤◌, ◌<◌, ℕ, length, IfOk, OnOk, MatchOption};
+ghost use Rattle.std.specs.Prelude.{Any};
 
 use arc_base::limits::ROUTER_LIMIT;
 use arc_base::{Kind, List, Memory};

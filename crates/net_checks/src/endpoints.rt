@@ -2,8 +2,8 @@
 ghost use Rattle.std.specs.Prelude.{◌≤◌, ◌↔◌, All, IsTrue, OnOk, length};
 ghost use Rattle.arc_base.specs.declared.refusal.Kind.TheVariants as kinds;
 ghost use Rattle.net_model.specs.Validity.{IsValid};
-ghost use Rattle.net_rules.specs.Reasons.{TriedAlone, InDocument};
 ghost use Rattle.net_rules.specs.Addressing.{HasEndpoints};
+ghost use Rattle.net_rules.specs.Reasons.{TriedAlone, InDocument};
 
 use arc_base::limits::POLICY_LIMIT;
 use arc_base::{Kind, Prefix};

@@ -1,8 +1,8 @@
 //! The limits of what a router file counts.
-ghost use Rattle.std.specs.Prelude.{◌≡◌, ◌≤◌, length};
-ghost use Rattle.std.specs.Option.{option_copied};
-ghost use Rattle.net_rules.specs.Reasons.{TriedAlone};
 ghost use Rattle.net_rules.specs.Limits.{RefusesInterfaces, RefusesEntries, long_list};
+ghost use Rattle.net_rules.specs.Reasons.{TriedAlone};
+ghost use Rattle.std.specs.Option.{option_copied};
+ghost use Rattle.std.specs.Prelude.{◌≡◌, ◌≤◌, length};
 
 use arc_base::limits::{INTERFACE_LIMIT, ROUTER_LIMIT};
 use arc_base::{Kind, LimitKind, List};

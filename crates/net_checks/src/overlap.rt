@@ -1,18 +1,18 @@
 //! Subnets that overlap. They are sorted, so that each one that overlaps another is next to one
 //! that it overlaps.
-ghost use Rattle.std.specs.Prelude.{[], ◌++◌, ◌≡◌, ◌<◌, ◌≤◌, ◌^◌, IfOk, IfNone, OnOk, MatchBool};
-ghost use Rattle.std.specs.Prelude.{MatchOption, All, AllPairs, length, ℕ};
-ghost use Rattle.std.specs.List.{range_with_len, cons_option};
-ghost use Rattle.net_model.specs.Validity.{AreLinksApart};
-ghost use Rattle.net_model.specs.declared.policies.Document.{Document};
+ghost use Rattle.arc_base.specs.Lists.{AreDistinct};
 ghost use Rattle.net_checks.specs.Claims.{AreLinkedOrApart, AreOfPartners, ArePartners};
 ghost use Rattle.net_checks.specs.Claims.{AreClaimsOf, ClearBelow, claim_of};
-ghost use Rattle.std.specs.Option.{option_map_or};
-ghost use Rattle.arc_base.specs.Lists.{AreDistinct};
-ghost use Rattle.net_rules.specs.Sites.{full_names, sites};
+ghost use Rattle.net_model.specs.Validity.{AreLinksApart};
+ghost use Rattle.net_model.specs.declared.policies.Document.{Document};
+ghost use Rattle.net_rules.specs.Addressing.{RefusesOverlap, OverlapsEarlier};
 ghost use Rattle.net_rules.specs.Reasons.{TriedAlone};
 ghost use Rattle.net_rules.specs.Rows.{AreRows};
-ghost use Rattle.net_rules.specs.Addressing.{RefusesOverlap, OverlapsEarlier};
+ghost use Rattle.net_rules.specs.Sites.{full_names, sites};
+ghost use Rattle.std.specs.List.{range_with_len, cons_option};
+ghost use Rattle.std.specs.Option.{option_map_or};
+ghost use Rattle.std.specs.Prelude.{[], ◌++◌, ◌≡◌, ◌<◌, ◌≤◌, ◌^◌, IfOk, IfNone, OnOk, MatchBool};
+ghost use Rattle.std.specs.Prelude.{MatchOption, All, AllPairs, length, ℕ};
 
 use crate::claims::Claim;
 use arc_base::limits::ROUTER_LIMIT;

@@ -1,26 +1,26 @@
 //! What the lines of BGP processes name: neighbours at the far ends of links, and connected
 //! networks.
-ghost use Rattle.std.specs.Prelude.{◌≡◌, ◌≤◌, ◌<◌, ◌↔◌, ◌⊎◌, ℕ, Any, All, Contains, IfOk, IsTrue};
-ghost use Rattle.std.specs.Prelude.{IsSome, length};
 ghost use Rattle.arc_base.specs.declared.prefix.Prefix.{Prefix};
-ghost use Rattle.ios_config.specs.declared.settings.Given.{Given};
 ghost use Rattle.ios_config.specs.declared.settings.Config.{Config};
+ghost use Rattle.ios_config.specs.declared.settings.Given.{Given};
 ghost use Rattle.net_model.specs.declared.policies.Document.{Document};
 ghost use Rattle.net_rules.specs.Forms.{IsWellFormed, IsWellFormedFace};
-ghost use Rattle.net_rules.specs.Settings.{lines_of};
 ghost use Rattle.net_rules.specs.Neighbors.{names_peer, remote_of, says_remote};
+ghost use Rattle.net_rules.specs.Settings.{lines_of};
+ghost use Rattle.std.specs.Prelude.{◌≡◌, ◌≤◌, ◌<◌, ◌↔◌, ◌⊎◌, ℕ, Any, All, Contains, IfOk, IsTrue};
+ghost use Rattle.std.specs.Prelude.{IsSome, length};
 ghost use Rattle.arc_base.specs.declared.refusal.Kind.TheVariants as kinds;
-ghost use Rattle.ios_config.specs.Least.{FindsLeast};
-ghost use Rattle.net_rules.specs.Reasons.{TriedAlone, InFiles};
-ghost use Rattle.net_rules.specs.Rows.{AreBaseRows};
 ghost use Rattle.arc_base.specs.Lists.{AreDistinct};
-ghost use Rattle.net_rules.specs.Sites.{full_names};
+ghost use Rattle.ios_config.specs.Least.{FindsLeast};
 ghost use Rattle.net_checks.specs.FarEnds.{FindsOnly, LeadsTo, LinkLeadsTo, AddsFarEnd, IsListed};
 ghost use Rattle.net_checks.specs.FarEnds.{IsReached, gives_remote};
+ghost use Rattle.net_checks.specs.Subnets.{AreSubnets};
 ghost use Rattle.net_rules.specs.Peers.{NamesOther, RefusesNeighbor, RefusesNetwork, IsConnectedAt};
 ghost use Rattle.net_rules.specs.Peers.{TellsUnconnected};
 ghost use Rattle.net_rules.specs.Prefixes.{HasPrefix};
-ghost use Rattle.net_checks.specs.Subnets.{AreSubnets};
+ghost use Rattle.net_rules.specs.Reasons.{TriedAlone, InFiles};
+ghost use Rattle.net_rules.specs.Rows.{AreBaseRows};
+ghost use Rattle.net_rules.specs.Sites.{full_names};
 
 use arc_base::limits::ROUTER_LIMIT;
 use arc_base::{Face, Kind, List, Memory};

@@ -1,10 +1,10 @@
 //! The routing processes of the routers: one each, and all of one protocol.
-ghost use Rattle.std.specs.Prelude.{◌≡◌, ◌≤◌, length, MatchOption, Any, IsSomeAnd, slice_get};
-ghost use Rattle.net_rules.specs.Settings.{process_of};
 ghost use Rattle.ios_config.specs.Least.{FindsLeast};
 ghost use Rattle.net_rules.specs.Reasons.{TriedAlone};
 ghost use Rattle.net_rules.specs.Routers.{RefusesProtocol, protocol_of, protocol_of_kind};
 ghost use Rattle.net_rules.specs.Routers.{NamesOtherProcess, RunsOther, MixesProcesses};
+ghost use Rattle.net_rules.specs.Settings.{process_of};
+ghost use Rattle.std.specs.Prelude.{◌≡◌, ◌≤◌, length, MatchOption, Any, IsSomeAnd, slice_get};
 
 use arc_base::limits::ROUTER_LIMIT;
 use arc_base::{Kind, List};

@@ -1,6 +1,6 @@
 //! Numbers of which no two files may give the same: AS numbers and router ids.
-ghost use Rattle.std.specs.Prelude.{IfOk};
 ghost use Rattle.net_checks.specs.Growing.{AddsGiven};
+ghost use Rattle.std.specs.Prelude.{IfOk};
 
 use arc_base::Memory;
 use indexmap::IndexSet;

@@ -1,8 +1,8 @@
 //! What is asked of each router by itself: a name and an AS of its own.
-ghost use Rattle.std.specs.Prelude.{◌≡◌, ◌≤◌, ◌+◌, ◌<◌, [], ◌∷◌, ◌++◌, length, IfOk, MatchOption};
-ghost use Rattle.std.specs.Prelude.{Contains, IsSomeAnd, map};
 ghost use Rattle.net_rules.specs.Reasons.{TriedAlone};
 ghost use Rattle.net_rules.specs.Routers.{RefusesHostname, RefusesSameAs, as_of_process, as_of};
+ghost use Rattle.std.specs.Prelude.{◌≡◌, ◌≤◌, ◌+◌, ◌<◌, [], ◌∷◌, ◌++◌, length, IfOk, MatchOption};
+ghost use Rattle.std.specs.Prelude.{Contains, IsSomeAnd, map};
 
 use crate::repeats::add_given;
 use arc_base::limits::ROUTER_LIMIT;

@@ -1,9 +1,9 @@
 //! Whether a packet list denies a packet that the routing protocol needs.
-ghost use Rattle.std.specs.Prelude.{◌<◌, ◌≤◌, ◌^◌, ◌↔◌, IsTrue, IsFalse, IsNone, IfSome};
-ghost use Rattle.net_model.specs.Lists.{matches, permits};
-ghost use Rattle.net_rules.specs.Stops.{Denies};
 ghost use Rattle.net_checks.specs.SessionPackets.{MissesUntil, PermitsUntil, DeniesBetween};
 ghost use Rattle.net_checks.specs.SessionPackets.{DeniesAt};
+ghost use Rattle.net_model.specs.Lists.{matches, permits};
+ghost use Rattle.net_rules.specs.Stops.{Denies};
+ghost use Rattle.std.specs.Prelude.{◌<◌, ◌≤◌, ◌^◌, ◌↔◌, IsTrue, IsFalse, IsNone, IfSome};
 
 use net_model::{Packet, PacketEntry, PacketList, Protocol};
 

@@ -1,15 +1,15 @@
 //! Packet lists that stop the routing protocol's own packets.
-ghost use Rattle.std.specs.Prelude.{◌≡◌, ◌↔◌, ◌≤◌, IsTrue, Some, slice_get, length};
-ghost use Rattle.net_model.specs.declared.policies.Document.{Document};
-ghost use Rattle.net_rules.specs.Reasons.{TriedAlone};
-ghost use Rattle.net_rules.specs.Rows.{AreRows};
 ghost use Rattle.arc_base.specs.Lists.{AreDistinct};
-ghost use Rattle.net_rules.specs.Sites.{full_names};
-ghost use Rattle.net_model.specs.Routing.{tail_end, head_end};
 ghost use Rattle.net_checks.specs.FarEnds.{FindsOnly};
 ghost use Rattle.net_checks.specs.Stopping.{list_line, StopsBetween, IsRefusalAt, StopsAt};
 ghost use Rattle.net_checks.specs.Stopping.{StopsAtSome, FindsFirst, is_before, earlier};
+ghost use Rattle.net_model.specs.Routing.{tail_end, head_end};
+ghost use Rattle.net_model.specs.declared.policies.Document.{Document};
+ghost use Rattle.net_rules.specs.Reasons.{TriedAlone};
+ghost use Rattle.net_rules.specs.Rows.{AreRows};
+ghost use Rattle.net_rules.specs.Sites.{full_names};
 ghost use Rattle.net_rules.specs.Stops.{RefusesListStopsSession, StopsPackets};
+ghost use Rattle.std.specs.Prelude.{◌≡◌, ◌↔◌, ◌≤◌, IsTrue, Some, slice_get, length};
 
 use crate::session_packets::denies;
 use arc_base::limits::ROUTER_LIMIT;

@@ -1,7 +1,7 @@
 //! The addresses at the two ends of a link.
-ghost use Rattle.std.specs.Prelude.{◌≡◌, ◌≤◌, ◌↔◌, IsTrue, length};
-ghost use Rattle.net_rules.specs.Reasons.{TriedAlone, InDocument};
 ghost use Rattle.net_rules.specs.Linking.{HaveOneSubnet, FitsSubnets};
+ghost use Rattle.net_rules.specs.Reasons.{TriedAlone, InDocument};
+ghost use Rattle.std.specs.Prelude.{◌≡◌, ◌≤◌, ◌↔◌, IsTrue, length};
 ghost use Rattle.arc_base.specs.declared.refusal.Kind.TheVariants as kinds;
 
 use arc_base::limits::LINK_LIMIT;

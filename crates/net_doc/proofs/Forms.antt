@@ -1,5 +1,6 @@
 -- What a text that is a document holds, and what is answered of one.
-use Rattle.std.proofs.Common.{◌≡◌, ◌≢◌, ℕ, ◌+◌, ◌≤◌, nat_lt, lt-ltb, true≢false, inl, inr, cond, codes, if◌then◌else◌, Bool, true, false, List, [], ◌∷◌, length, Option, Some, None, option_and_then, Ok, Err, refl, sym, ap, subst, ◌∙◌, arith}
+use Rattle.std.proofs.Common.{◌≡◌, ◌≢◌, ℕ, ◌+◌, ◌≤◌, nat_lt, lt-ltb, true≢false, inl, inr, cond, codes, if◌then◌else◌, Bool, true, false}
+use Rattle.std.proofs.Common.{List, [], ◌∷◌, length, Option, Some, None, option_and_then, Ok, Err, refl, sym, ap, subst, ◌∙◌, arith}
 use Rattle.std.proofs.lemmas.Bool.{and_parts, leb-true, cases_lt}
 use Rattle.std.proofs.lemmas.List.Elements.{All-from_recursion}
 use Rattle.std.proofs.lemmas.Option.{same_Some}
@@ -22,7 +23,8 @@ use Rattle.net_model.specs.declared.policies.Document.{Document}
 use Rattle.net_doc.specs.declared.fault.NetFault.{NetFault}
 use Rattle.net_doc.specs.declared.fault.Refusal.{Refusal}
 use Rattle.net_doc.specs.Members.{all_of, list_under, or_default}
-use Rattle.net_doc.specs.Documents.{router_of, routers_of, links_of, policies_of, weight_from, weight_under, weights_from, weights_of, unit_weights, version_of, document_from, document_of, form_refusal, over, failures_refusal, policies_refusal, limit_refusal, within_limits, limited, reading, IsFileName, IsWeight, IsWellFormed}
+use Rattle.net_doc.specs.Documents.{router_of, routers_of, links_of, policies_of, weight_from, weight_under, weights_from, weights_of, unit_weights, version_of, document_from}
+use Rattle.net_doc.specs.Documents.{document_of, form_refusal, over, failures_refusal, policies_refusal, limit_refusal, within_limits, limited, reading, IsFileName, IsWeight, IsWellFormed}
 use Rattle.net_model.specs.Policies.{HasFewFailures}
 use Rattle.net_doc.proofs.Names.{AllPairs-different}
 

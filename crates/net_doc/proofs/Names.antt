@@ -1,5 +1,6 @@
 -- Lists of names: which names are among them, and that none stands twice.
-use Rattle.std.proofs.Common.{◌≡◌, ◌≢◌, ℕ, ◌&&◌, ◌||◌, Bool, true, false, not, List, [], ◌∷◌, ◌++◌, ◌+◌, ◌<◌, length, get_or, cond, take, drop, take-append-drop, map, String, Global, Bor, string_bytes, bytes_eq, true≢false, ◌⊎◌, inl, inr, refl, sym, ap, ◌∙◌, arith}
+use Rattle.std.proofs.Common.{◌≡◌, ◌≢◌, ℕ, ◌&&◌, ◌||◌, Bool, true, false, not, List, [], ◌∷◌, ◌++◌, ◌+◌, ◌<◌, length, get_or, cond}
+use Rattle.std.proofs.Common.{take, drop, take-append-drop, map, String, Global, Bor, string_bytes, bytes_eq, true≢false, ◌⊎◌, inl, inr, refl, sym, ap, ◌∙◌, arith}
 use Rattle.std.proofs.lemmas.Bool.{and_parts, and_from, and_left, and_right}
 use Rattle.std.proofs.lemmas.Bool.Decides.{same_from_decides}
 use Rattle.std.proofs.lemmas.Grind.{take_at_read}
@@ -19,7 +20,8 @@ list_any-map f p [] = refl
 list_any-map f p (x ∷ xs) = ap (λ b. p (f x) || b) (list_any-map f p xs)
 
 -- the members of an object by their keys
-pub are_among-keys : (names : List (List ℕ)) (es : List (String Global × Value)) → are_among names (members_view es) ≡ list_all (λ k. list_any (λ known. bytes_eq known (string_bytes k)) names) (keys_of es)
+pub are_among-keys : (names : List (List ℕ)) (es : List (String Global × Value)) →
+    are_among names (members_view es) ≡ list_all (λ k. list_any (λ known. bytes_eq known (string_bytes k)) names) (keys_of es)
 are_among-keys names [] = refl
 are_among-keys names (e ∷ es) = ap (λ b. list_any (λ known. bytes_eq known (string_bytes e.0)) names && b) (are_among-keys names es)
 

@@ -1,10 +1,10 @@
 //! Reading a document from its JSON text, or its first refusal.
-ghost use Rattle.std.specs.Prelude.{◌≡◌, ◌≤◌, None, length, map, option_map, All, IfOk, IfErr};
-ghost use Rattle.serde_json.specs.View.{view};
-ghost use Rattle.net_doc.specs.Documents.{ReadsDocument, IsWellFormed, document_from, document_of};
-ghost use Rattle.net_doc.specs.Documents.{version_of, limit_refusal, reading};
-ghost use Rattle.net_model.specs.Policies.{HasFewFailures};
+ghost use Rattle.net_doc.specs.Documents.{ReadsDocument, IsWellFormed, document_from, version_of};
+ghost use Rattle.net_doc.specs.Documents.{limit_refusal};
 ghost use Rattle.net_doc.specs.Drafts.{kind_meant, policy_meant, document_meant};
+ghost use Rattle.net_model.specs.Policies.{HasFewFailures};
+ghost use Rattle.serde_json.specs.View.{view};
+ghost use Rattle.std.specs.Prelude.{◌≡◌, None, option_map, IfOk};
 
 use crate::drafts::{Draft, KindText, PolicyText};
 use crate::fault::{NetFault, Refusal};

@@ -1,11 +1,11 @@
 //! The routers, the links and the policies of a document.
-ghost use Rattle.std.specs.Prelude.{◌≡◌, map, option_map, option_and_then, IfOk};
-ghost use Rattle.serde_json.specs.View.{view, items_view};
-ghost use Rattle.net_doc.specs.Members.{all_of, has_only, text_under};
 ghost use Rattle.net_doc.specs.Documents.{router_of, are_different, routers_of, end_of};
 ghost use Rattle.net_doc.specs.Documents.{waypoint_of, link_of, links_of, kind_of, policy_members};
 ghost use Rattle.net_doc.specs.Documents.{policy_of, policies_of};
 ghost use Rattle.net_doc.specs.Drafts.{kind_meant, policy_meant};
+ghost use Rattle.net_doc.specs.Members.{all_of, has_only, text_under};
+ghost use Rattle.serde_json.specs.View.{view, items_view};
+ghost use Rattle.std.specs.Prelude.{◌≡◌, map, option_map, option_and_then, IfOk};
 
 use crate::drafts::{KindText, PolicyText};
 use crate::members::{has_only, list_under, number_under, text_under};

@@ -1,11 +1,11 @@
 //! Laws over the definitions alone: each is the contract of a function that does nothing.
-ghost use Rattle.std.specs.Prelude.{◌≡◌, ℕ, List, Ok, Err};
-ghost use Rattle.net_model.specs.declared.policies.Document.{Document};
-ghost use Rattle.net_doc.specs.declared.fault.Refusal.{Refusal};
 ghost use Rattle.net_doc.specs.Documents.{reading, IsFormOrLimit, IsWellFormed};
 ghost use Rattle.net_doc.specs.Documents.{OldPoliciesAreWhole};
 ghost use Rattle.net_doc.specs.Services.{ProtocolsHaveServices, PortsHaveServices};
 ghost use Rattle.net_doc.specs.Services.{PoliciesSpeakOfOneProtocol};
+ghost use Rattle.net_doc.specs.declared.fault.Refusal.{Refusal};
+ghost use Rattle.net_model.specs.declared.policies.Document.{Document};
+ghost use Rattle.std.specs.Prelude.{◌≡◌, ℕ, List, Ok, Err};
 
 /// What holds of every document that is read.
 pub fn documents_are_well_formed()

@@ -1,7 +1,7 @@
 //! The limits of a document's counts.
-ghost use Rattle.std.specs.Prelude.{◌≡◌, ◌≤◌, length, map};
 ghost use Rattle.net_doc.specs.Documents.{over, failures_refusal, policies_refusal, limit_refusal};
 ghost use Rattle.net_doc.specs.Drafts.{kind_meant, policy_meant, document_meant};
+ghost use Rattle.std.specs.Prelude.{◌≡◌, ◌≤◌, length, map};
 
 use crate::drafts::{Draft, KindText, PolicyText};
 use crate::fault::Refusal;

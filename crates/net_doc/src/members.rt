@@ -1,8 +1,8 @@
 //! What a JSON value holds under a name, and in which form.
-ghost use Rattle.std.specs.Prelude.{◌≡◌, map, option_map, bytes_eq};
-ghost use Rattle.std.specs.List.{list_any};
-ghost use Rattle.serde_json.specs.View.{view, items_view, members_view};
 ghost use Rattle.net_doc.specs.Members.{are_among, has_only, number_under, text_under, list_under};
+ghost use Rattle.serde_json.specs.View.{view, items_view, members_view};
+ghost use Rattle.std.specs.List.{list_any};
+ghost use Rattle.std.specs.Prelude.{◌≡◌, map, option_map, bytes_eq};
 
 use serde_json::{Map, Value};
 

@@ -1,8 +1,8 @@
 //! The services of which a policy speaks.
-ghost use Rattle.std.specs.Prelude.{◌≡◌, ◌≤◌, ◌+◌, ◌*◌, IfSome};
-ghost use Rattle.serde_json.specs.View.{view};
 ghost use Rattle.net_doc.specs.Services.{protocol_named, protocol_numbered, protocol_of, port_of};
 ghost use Rattle.net_doc.specs.Services.{range_from, of_protocol, of_port, services_of};
+ghost use Rattle.serde_json.specs.View.{view};
+ghost use Rattle.std.specs.Prelude.{◌≡◌, ◌≤◌, ◌+◌, ◌*◌, IfSome};
 
 use net_model::Service;
 use serde_json::Value;

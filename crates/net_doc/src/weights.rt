@@ -1,7 +1,7 @@
 //! The weights of edits.
-ghost use Rattle.std.specs.Prelude.{◌≡◌};
-ghost use Rattle.serde_json.specs.View.{view};
 ghost use Rattle.net_doc.specs.Documents.{weight_from, weight_under, weights_from, weights_of};
+ghost use Rattle.serde_json.specs.View.{view};
+ghost use Rattle.std.specs.Prelude.{◌≡◌};
 
 use crate::members::has_only;
 use arc_base::limits::WEIGHT_LIMIT;

@@ -12,7 +12,8 @@ use Rattle.ios_words.specs.Printed.{wildcard_text}
 use Rattle.ios_words.proofs.PlainSteps.{mask-small, wildcard-small}
 use Rattle.ios_words.proofs.WordSizes.{address-few, top-few, word-more}
 use Rattle.net_gen.specs.Plans.{numbers, link_count, a_router, has_end, port}
-use Rattle.net_gen.specs.RouterFiles.{host_name, face_name, address, name_line, face_line, address_line, process_line, covers_line, face_lines, name_lines, host_lines, link_lines, links_lines, process_lines, router_lines, ended, text_of}
+use Rattle.net_gen.specs.RouterFiles.{host_name, face_name, address, name_line, face_line, address_line, process_line, covers_line}
+use Rattle.net_gen.specs.RouterFiles.{face_lines, name_lines, host_lines, link_lines, links_lines, process_lines, router_lines, ended, text_of}
 use Rattle.net_gen.specs.Generated.{asked, asked_around, router_texts}
 use Rattle.net_gen.proofs.Counted.{text_of-append, file_text}
 
@@ -72,7 +73,8 @@ face_length number addr len few small =
 module _ (n router : ℕ) where
   link_length : (link : ℕ) → link < 256 → length (text_of (link_lines n router link)) ≤ 80
   link_length link few =
-      face_length (port n router link) (address 0 link (if a_router n link == router then 1 else 2)) 30 (omega (arith, few, port_at_most n router link)) (end_small link few (a_router n link == router))
+      face_length (port n router link) (address 0 link (if a_router n link == router then 1 else 2)) 30 (omega (arith, few, port_at_most n router link))
+      (end_small link few (a_router n link == router))
 
   kept_length : (b : Bool) (link : ℕ) (links : List ℕ) → link < 256 →
       length (text_of (flat_map (link_lines n router) (cond b (link ∷ links) links))) ≤ 80 + length (text_of (flat_map (link_lines n router) links))

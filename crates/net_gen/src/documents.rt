@@ -1,9 +1,9 @@
 //! The document of a generated network.
-ghost use Rattle.std.specs.Prelude.{◌≡◌, ◌≤◌, IfOk, map};
-ghost use Rattle.std.specs.List.{AllZip};
+ghost use Rattle.net_gen.specs.Generated.{IsHostNetwork, Asks, asked, link_text, IsDocument};
 ghost use Rattle.net_gen.specs.Plans.{numbers, link_count};
 ghost use Rattle.net_gen.specs.RouterFiles.{file_name};
-ghost use Rattle.net_gen.specs.Generated.{IsHostNetwork, Asks, asked, link_text, IsDocument};
+ghost use Rattle.std.specs.List.{AllZip};
+ghost use Rattle.std.specs.Prelude.{◌≡◌, ◌≤◌, IfOk, map};
 
 use crate::plans::{a_router, b_router, link_count, next, port};
 use crate::router_files::{face_name, file_name, host_name};

@@ -1,7 +1,7 @@
 //! A network from a number.
-ghost use Rattle.std.specs.Prelude.{◌≡◌, ◌+◌, ◌^◌, ◌<◌, ◌≤◌, length, All, IfOk};
-ghost use Rattle.net_gen.specs.Plans.{link_count};
 ghost use Rattle.net_gen.specs.Generated.{router_texts, IsGenerated};
+ghost use Rattle.net_gen.specs.Plans.{link_count};
+ghost use Rattle.std.specs.Prelude.{◌≡◌, ◌+◌, ◌^◌, ◌<◌, ◌≤◌, length, All, IfOk};
 
 use crate::documents::document;
 use crate::router_files::router_text;

@@ -1,7 +1,7 @@
 //! The links of a generated network. Routers, links and the interfaces of a router are numbered
 //! from 1.
-ghost use Rattle.std.specs.Prelude.{◌≡◌, ◌≤◌, ◌+◌};
 ghost use Rattle.net_gen.specs.Plans.{link_count, next, a_router, b_router, has_end, port};
+ghost use Rattle.std.specs.Prelude.{◌≡◌, ◌≤◌, ◌+◌};
 
 use arc_base::limits::MOST_GENERATED;
 

@@ -1,10 +1,10 @@
 //! The texts of the router files, and the names that they give.
-ghost use Rattle.std.specs.Prelude.{◌≡◌, ◌<◌, ◌≤◌, ◌++◌, ◌==◌, IfOk, OnOk, if◌then◌else◌};
 ghost use Rattle.ios_words.specs.Plain.{plain_line};
 ghost use Rattle.net_gen.specs.Plans.{numbers, link_count, a_router};
 ghost use Rattle.net_gen.specs.RouterFiles.{host_name, file_name, face_name, address, ended};
 ghost use Rattle.net_gen.specs.RouterFiles.{face_lines, name_lines, link_lines};
 ghost use Rattle.net_gen.specs.RouterFiles.{links_lines, process_lines, router_lines, text_of};
+ghost use Rattle.std.specs.Prelude.{◌≡◌, ◌<◌, ◌≤◌, ◌++◌, ◌==◌, IfOk, OnOk, if◌then◌else◌};
 
 use crate::plans::{a_router, has_end, link_count, port};
 use arc_base::limits::MOST_GENERATED;

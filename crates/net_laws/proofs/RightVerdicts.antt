@@ -86,7 +86,8 @@ right_verdicts_decide net valid policy v right =
     )
 
 -- right verdicts are all yes exactly where the network meets all policies
-pub all_decided : (net : Network) → RightVerdictsDecide net → (policies : List Policy) (verdicts : List Verdict) → AllZip (IsRight net) policies verdicts → (list_all is_yes verdicts ≡ true) ↔ All (Meets net) policies
+pub all_decided : (net : Network) → RightVerdictsDecide net → (policies : List Policy) (verdicts : List Verdict) → AllZip (IsRight net) policies verdicts →
+    (list_all is_yes verdicts ≡ true) ↔ All (Meets net) policies
 all_decided net decide [] [] right = (λ t. All-nil (Meets net), λ all. refl)
 all_decided net decide [] (v ∷ vs) right = absurd right
 all_decided net decide (p ∷ ps) [] right = absurd right

@@ -19,7 +19,9 @@ use Rattle.net_model.specs.Routing.{Arc, IsArc, IsRouted, IsUsable, Offers, IsLe
 use Rattle.net_model.specs.Forwarding.{AreEnds, Attains, ListPermits, Walk}
 use Rattle.net_model.proofs.Arcs.{IsArc-unique}
 use Rattle.net_laws.specs.Examples.{users_1}
-use Rattle.net_laws.specs.Square.{square, users_4, everyone, owner_4, link, end_1a, end_1b, end_2a, end_2b, end_3a, end_3b, end_4a, end_4b, across, ends, list_101, over_3_and_4, length_of, distances, SquareDistancesAreStable, SquareDeliversNone, SquareIsNotBlocked, SquareWalkIsRight, SquareRefusalIsRight}
+use Rattle.net_laws.specs.Square.{square, users_4, everyone, owner_4, link, end_1a, end_1b, end_2a, end_2b, end_3a, end_3b, end_4a}
+use Rattle.net_laws.specs.Square.{end_4b, across, ends, list_101, over_3_and_4, length_of, distances, SquareDistancesAreStable, SquareDeliversNone, SquareIsNotBlocked, SquareWalkIsRight}
+use Rattle.net_laws.specs.Square.{SquareRefusalIsRight}
 
 -- the arc of each link in each direction
 abbrev pub arc : ℕ → Bool → Arc
@@ -46,10 +48,56 @@ told : Any (Advertises users_4) square.faces
 told = (9, owner_4, omega arith, refl, record { host = refl; told = refl; up = refl })
 
 routed : (k : ℕ) → IsRouted square users_4 (arc k true)
-routed zero = record { told = told; carries = record { able_tail = record { up = refl; addressed = refl; takes_part = refl }; able_head = record { up = refl; addressed = refl; takes_part = refl }; open_tail = record { active = refl; not_down = tt }; open_head = record { active = refl; not_down = tt }; filter = tt } }
-routed (suc zero) = record { told = told; carries = record { able_tail = record { up = refl; addressed = refl; takes_part = refl }; able_head = record { up = refl; addressed = refl; takes_part = refl }; open_tail = record { active = refl; not_down = tt }; open_head = record { active = refl; not_down = tt }; filter = tt } }
-routed (suc (suc zero)) = record { told = told; carries = record { able_tail = record { up = refl; addressed = refl; takes_part = refl }; able_head = record { up = refl; addressed = refl; takes_part = refl }; open_tail = record { active = refl; not_down = tt }; open_head = record { active = refl; not_down = tt }; filter = tt } }
-routed (suc (suc (suc k))) = record { told = told; carries = record { able_tail = record { up = refl; addressed = refl; takes_part = refl }; able_head = record { up = refl; addressed = refl; takes_part = refl }; open_tail = record { active = refl; not_down = tt }; open_head = record { active = refl; not_down = tt }; filter = tt } }
+routed zero = record {
+  told = told;
+  carries =
+      record {
+        able_tail = record { up = refl; addressed = refl; takes_part = refl };
+        able_head = record { up = refl; addressed = refl; takes_part = refl };
+        open_tail =
+            record { active = refl; not_down = tt };
+        open_head = record { active = refl; not_down = tt };
+        filter = tt;
+      };
+}
+routed (suc zero) = record {
+  told = told;
+  carries =
+      record {
+        able_tail = record { up = refl; addressed = refl; takes_part = refl };
+        able_head = record { up = refl; addressed = refl; takes_part = refl };
+        open_tail =
+            record { active = refl; not_down = tt };
+        open_head = record { active = refl; not_down = tt };
+        filter = tt;
+      };
+}
+routed (suc (suc zero)) =
+    record {
+      told = told;
+      carries =
+          record {
+            able_tail = record { up = refl; addressed = refl; takes_part = refl };
+            able_head = record { up = refl; addressed = refl; takes_part = refl };
+            open_tail =
+                record { active = refl; not_down = tt };
+            open_head = record { active = refl; not_down = tt };
+            filter = tt;
+          };
+    }
+routed (suc (suc (suc k))) =
+    record {
+      told = told;
+      carries =
+          record {
+            able_tail = record { up = refl; addressed = refl; takes_part = refl };
+            able_head = record { up = refl; addressed = refl; takes_part = refl };
+            open_tail =
+                record { active = refl; not_down = tt };
+            open_head = record { active = refl; not_down = tt };
+            filter = tt;
+          };
+    }
 
 -- an arc is no shorter than the distances at its ends differ
 abbrev pub IsNoShortcut : Arc → Type 0
@@ -185,7 +233,8 @@ denied p of =
     ap (λ (b : Bool). b && holds users_4 p.to && serves whole_service p.service) of.0
     ∙ ap (λ (b : Bool). b && serves whole_service p.service) of.1 ∙ of.2 in
     ap (λ (b : Bool). option_map_or (λ (e : PacketEntry). e.permit)
-    (if b then Some (record { permit = false; from = users_1; to = users_4; service = whole_service }) else find (matches p) (record { permit = true; from = everyone; to = everyone; service = whole_service } ∷ [])) false) both
+    (if b then Some (record { permit = false; from = users_1; to = users_4; service = whole_service }) else find (matches p)
+    (record { permit = true; from = everyone; to = everyone; service = whole_service } ∷ [])) false) both
 
 walks_nowhere : (p : Packet) → IsOf across p → (arcs : List Arc) → Walk square users_4 (λ link. false) distances p 0 arcs 3 → ⊥
 walks_nowhere p of [] w = omega (arith, w)

@@ -1,18 +1,18 @@
 //! Laws over the definitions alone: each is the contract of a function that does nothing.
-ghost use Rattle.net_model.specs.Validity.{IsValid};
+ghost use Rattle.net_laws.specs.Breaking.{HoldsUnderEach, RightNosBreak};
+ghost use Rattle.net_laws.specs.Examples.{ExampleIsValid, BothWaysRouted, DistancesAreStable};
+ghost use Rattle.net_laws.specs.Examples.{OnePathIsRight, OneCutIsRight, OneWalkIsRight};
 ghost use Rattle.net_laws.specs.Laws.{HasOneStableMap, ClosedSidesBlock, ClosedSidesForceThrough};
 ghost use Rattle.net_laws.specs.Laws.{RightWalksAreDelivered, RightWalksUnblock, RightWalksBypass};
 ghost use Rattle.net_laws.specs.Laws.{RightPathsReach, RefusalsAreRight, HasStableMap};
 ghost use Rattle.net_laws.specs.Laws.{RightCutsSeparate, RightCutsBreakReach};
 ghost use Rattle.net_laws.specs.Laws.{RightDenialsBreakReach, HasOnePairOfEnds};
 ghost use Rattle.net_laws.specs.Laws.{RightVerdictsAreTrue, RightVerdictsDecide};
-ghost use Rattle.net_laws.specs.Breaking.{HoldsUnderEach, RightNosBreak};
 ghost use Rattle.net_laws.specs.Routes.{RoutesDecide, RoutesDecideAllUp};
-ghost use Rattle.net_laws.specs.Examples.{ExampleIsValid, BothWaysRouted, DistancesAreStable};
-ghost use Rattle.net_laws.specs.Examples.{OnePathIsRight, OneCutIsRight, OneWalkIsRight};
 ghost use Rattle.net_laws.specs.Square.{SquareDistancesAreStable, SquareDeliversNone};
 ghost use Rattle.net_laws.specs.Square.{SquareIsNotBlocked, SquareWalkIsRight};
 ghost use Rattle.net_laws.specs.Square.{SquareRefusalIsRight};
+ghost use Rattle.net_model.specs.Validity.{IsValid};
 ghost use Rattle.net_model.specs.declared.rows.Network.{Network};
 
 /// For a host network and a failure set there is one stable map.

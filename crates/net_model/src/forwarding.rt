@@ -1,6 +1,6 @@
 //! Whether a packet list permits a packet, in time linear in its entries.
-ghost use Rattle.std.specs.Prelude.{◌↔◌, IsTrue};
 ghost use Rattle.net_model.specs.Forwarding.{ListPermits};
+ghost use Rattle.std.specs.Prelude.{◌↔◌, IsTrue};
 
 use crate::lists::Packet;
 use crate::rows::Network;

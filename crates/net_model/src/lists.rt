@@ -1,7 +1,7 @@
 //! Packets, and the lists that filter them and routes. A list answers by its first entry that
 //! matches.
-ghost use Rattle.std.specs.Prelude.{◌≡◌, find};
 ghost use Rattle.std.specs.Option.{option_copied};
+ghost use Rattle.std.specs.Prelude.{◌≡◌, find};
 
 use crate::services::Service;
 use arc_base::{List, Name, Prefix, Router};

@@ -1,6 +1,6 @@
 //! Documents: policies, traffic classes, and the weights of edits.
-ghost use Rattle.std.specs.Prelude.{◌≡◌};
 ghost use Rattle.net_model.specs.Packets.{first_packet, subject};
+ghost use Rattle.std.specs.Prelude.{◌≡◌};
 
 use crate::lists::Packet;
 use crate::services::Service;

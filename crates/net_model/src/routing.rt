@@ -1,18 +1,17 @@
 //! Which links and arcs are routed for a host network (RFC 2328, RFC 4271), asked one by one.
-ghost use Rattle.std.specs.Prelude.{◌≡◌, ◌↔◌, ℕ, length, Any, find, slice_get, IsTrue, IfSome};
-ghost use Rattle.std.specs.Prelude.{IfNone};
-ghost use Rattle.std.specs.Option.{option_copied};
+ghost use Rattle.net_model.specs.Decided.{names, takes_part, is_able_end, is_open, tells, is_told};
+ghost use Rattle.net_model.specs.Forwarding.{LiesInHostOf, IsHostOf, IsHostFace, HasHost};
 ghost use Rattle.net_model.specs.Routing.{tail_end, head_end, session_at, IsAbleEnd, IsOpen};
 ghost use Rattle.net_model.specs.Routing.{RouteListPermits, FilterPermits, Advertises, Carries};
 ghost use Rattle.net_model.specs.Routing.{IsRoutedLink};
-ghost use Rattle.net_model.specs.Decided.{names, takes_part, is_able_end, is_open, tells, is_told};
 ghost use Rattle.net_model.specs.Tables.{IsRoutedOver, IsToldOf};
-ghost use Rattle.net_model.specs.Forwarding.{LiesInHostOf, IsHostOf, IsHostFace, HasHost};
+ghost use Rattle.std.specs.Option.{option_copied};
+ghost use Rattle.std.specs.Prelude.{◌≡◌, ◌↔◌, ℕ, Any, find, IsTrue, IfSome, IfNone};
 
 use crate::rows::{FaceRow, LinkRow, Network, Protocol, SessionRow};
 use arc_base::{Face, Link, ListId, Prefix};
 
-/// What is asked of a network once for a host network, so that it is not asked again for each link.
+/// What `routed_if_told` needs to know of a host network, computed once for all links.
 #[derive(Clone, Copy, Debug)]
 pub struct Told {
     /// Whether some interface that is up advertises the host network.
@@ -226,8 +225,8 @@ impl Network {
         told && self.carries(tail_session, tail_row, head_session, head_row, to)
     }
 
-    /// What is asked once for the host network. It goes over the interfaces and the sessions once
-    /// each.
+    /// What `routed_if_told` needs to know of the host network. It goes over the interfaces and the
+    /// sessions once each.
     pub fn told(&self, to: Prefix) -> Told
         ensures { IsToldOf self.now to result }
     {
@@ -247,7 +246,7 @@ impl Network {
         self.routed_if_told(self.told(to), link, from_a, to)
     }
 
-    /// The answer of `routed`, where `told` is that of the call of this name. It looks through the
+    /// The answer of `routed`, where `told` is the result of `told`. It looks through the
     /// sessions of the two routers at the link's ends, which it finds by binary search. Only if the
     /// sessions are not sorted by router it looks through them all.
     pub fn routed_if_told(&self, told: Told, link: Link, from_a: bool, to: Prefix) -> bool

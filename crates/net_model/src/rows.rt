@@ -47,7 +47,7 @@ pub struct FaceRow {
     pub passive: bool,
     /// The cost of sending a packet out of it under OSPF, from 1 to 65535 (RFC 2328, appendix C.3).
     pub cost: u32,
-    /// Whether a packet list is bound inbound, also one that is not defined.
+    /// Whether a packet list is bound inbound, even if it is not defined.
     pub bound_in: bool,
     /// The packet list that is bound inbound, if it is defined. A list without entries is not, and
     /// permits every packet.
@@ -66,9 +66,9 @@ pub struct SessionRow {
     pub remote: u32,
     /// Whether the neighbour is shut down.
     pub down: bool,
-    /// Whether a route list is bound inbound, also one that is not defined.
+    /// Whether a route list is bound inbound, even if it is not defined.
     pub bound: bool,
-    /// The route list that is bound inbound, if it is defined. Without one every prefix is taken.
+    /// The route list that is bound inbound, if it is defined. Without one each route is accepted.
     pub filter: Option<ListId>,
 }
 

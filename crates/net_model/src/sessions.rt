@@ -1,9 +1,9 @@
 //! The session of an interface, found among those of its router.
-ghost use Rattle.std.specs.Prelude.{◌≡◌, ◌↔◌, ◌≤◌, ◌<◌, ◌==◌, IsTrue, find, length};
-ghost use Rattle.std.specs.List.Sorted.{IsPartitionPoint};
-ghost use Rattle.std.specs.Option.{option_copied};
 ghost use Rattle.net_model.specs.Routing.{session_at};
 ghost use Rattle.net_model.specs.Tables.{router_at, StandByRouter};
+ghost use Rattle.std.specs.List.Sorted.{IsPartitionPoint};
+ghost use Rattle.std.specs.Option.{option_copied};
+ghost use Rattle.std.specs.Prelude.{◌≡◌, ◌↔◌, ◌≤◌, ◌<◌, ◌==◌, IsTrue, find, length};
 
 use crate::rows::{Network, SessionRow};
 use arc_base::Face;

@@ -1,9 +1,9 @@
 //! Which arcs of all links are routed for one host network, found in one go.
-ghost use Rattle.std.specs.Prelude.{◌≡◌, ◌↔◌, ◌<◌, ◌==◌, ℕ, length, slice_index_or, if◌then◌else◌};
-ghost use Rattle.std.specs.Prelude.{None, Some, Any, IsTrue, IfOk};
-ghost use Rattle.std.specs.Option.{option_copied, option_or};
 ghost use Rattle.net_model.specs.Routing.{session_at, Advertises};
 ghost use Rattle.net_model.specs.Tables.{IsSessionIndex, TellsRouted, AreRoutedLinks};
+ghost use Rattle.std.specs.Option.{option_copied, option_or};
+ghost use Rattle.std.specs.Prelude.{◌≡◌, ◌↔◌, ◌<◌, ◌==◌, ℕ, length, slice_index_or, if◌then◌else◌};
+ghost use Rattle.std.specs.Prelude.{None, Some, Any, IsTrue, IfOk};
 
 use crate::rows::{Network, SessionRow};
 use arc_base::{Face, Link, List, Memory, Prefix};

@@ -1,6 +1,6 @@
 //! Verdicts on policies, with their witnesses.
-ghost use Rattle.std.specs.Prelude.{◌≡◌};
 ghost use Rattle.net_model.specs.Witnesses.{is_yes};
+ghost use Rattle.std.specs.Prelude.{◌≡◌};
 
 use crate::lists::Packet;
 use crate::policies::Class;

@@ -95,8 +95,10 @@ module _ {X : Type 0} (kind : Kind) (Offends : ℕ → X → Type 0) (items : Li
           clear bad.place bad.item (omega (arith, line, lower)) bad.at_place bad.offends
 
 -- a test of each item of the document, whose answer is known
-module _ {X : Type 0} (kind : Kind) (Good : X → Type 0) (items : List X) (n : ℕ) (item : X) (within : n < length items) (is : item ≡ get_or items n item) (passes : Bool) (said : IsTrue passes ↔ Good item) where
-  pub bad_item : NoneTo kind (λ (place : ℕ) (x : X). ¬ Good x) items n → passes ≡ false → IsFirst (InDocument kind (λ (place : ℕ) (x : X). ¬ Good x) items) (record { file = 0; number = n + 1; kind = kind })
+module _ {X : Type 0} (kind : Kind) (Good : X → Type 0) (items : List X) (n : ℕ) (item : X) (within : n < length items) (is : item ≡ get_or items n item) (passes : Bool)
+    (said : IsTrue passes ↔ Good item) where
+  pub bad_item : NoneTo kind (λ (place : ℕ) (x : X). ¬ Good x) items n → passes ≡ false →
+      IsFirst (InDocument kind (λ (place : ℕ) (x : X). ¬ Good x) items) (record { file = 0; number = n + 1; kind = kind })
   bad_item clear fails = first_item kind (λ (place : ℕ) (x : X). ¬ Good x) items n item within is clear (λ good. false≢true (sym fails ∙ said.1 good))
 
   pub good_item : NoneTo kind (λ (place : ℕ) (x : X). ¬ Good x) items n → passes ≡ true → NoneTo kind (λ (place : ℕ) (x : X). ¬ Good x) items (n + 1)

@@ -21,7 +21,8 @@ module _ {X : Type 0} (IsBefore : X → X → Type 0) where
   same_lists (x ∷ xs) [] asym of_x of_y to from = absurd (Contains-none x (to x (Contains-head x xs)))
   same_lists (x ∷ xs) (y ∷ ys) asym of_x of_y to from =
       let head : x ≡ y = heads in
-      let tails : xs ≡ ys = same_lists xs ys (λ u v in_u in_v. asym u v (Contains-tail x u xs in_u) (Contains-tail x v xs in_v)) (AllPairs-back IsBefore (x ∷ []) xs of_x) (AllPairs-back IsBefore (y ∷ []) ys of_y)
+      let tails : xs ≡ ys = same_lists xs ys (λ u v in_u in_v. asym u v (Contains-tail x u xs in_u) (Contains-tail x v xs in_v)) (AllPairs-back IsBefore (x ∷ []) xs of_x)
+      (AllPairs-back IsBefore (y ∷ []) ys of_y)
       (λ z there. later_to z there) (λ z there. later_from z there) in
       λ i. head i ∷ tails i
     where

@@ -63,7 +63,8 @@ module _ (doc : Document) (configs : List Config) (clear : IsClear (RefusesLinkF
 
     pub links_apart : AllPairs AreLinksApart net.links
     links_apart i j d l m =
-        let x : (t : LinkText) × (slice_get doc.links i ≡ Some t) × IsLinkRow (full_names configs) t (get_or net.links i d) = text_at i (get_or net.links i d) (slice_get-get_or net.links i d (omega arith)) in
+        let x : (t : LinkText) × (slice_get doc.links i ≡ Some t) × IsLinkRow (full_names configs) t (get_or net.links i d) =
+        text_at i (get_or net.links i d) (slice_get-get_or net.links i d (omega arith)) in
         let y : (t : LinkText) × (slice_get doc.links j ≡ Some t) × IsLinkRow (full_names configs) t (get_or net.links j d) = text_at j (get_or net.links j d) (slice_get-get_or net.links j d m) in
         let of_a = free i j x.0 y.0 l x.1 y.1 (a_end x.0) (Contains-head (a_end x.0) (b_end x.0 ∷ [])) in
         let of_b = free i j x.0 y.0 l x.1 y.1 (b_end x.0) (Contains-tail (a_end x.0) (b_end x.0) (b_end x.0 ∷ []) (Contains-head (b_end x.0) [])) in (

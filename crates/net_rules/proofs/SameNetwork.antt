@@ -27,7 +27,8 @@ use Rattle.net_rules.proofs.SameRows.{AreSameRows, same_base_rows}
 one_way : (x y : ℕ) → x < y → y < x → ⊥
 one_way x y h g = omega (arith, h, g)
 
-same_sessions : (protocol : Protocol) (configs : List Config) (links : List LinkRow) (keys : List (ℕ × List ℕ)) (xs ys : List SessionRow) → AreSessions protocol configs links keys xs → AreSessions protocol configs links keys ys → xs ≡ ys
+same_sessions : (protocol : Protocol) (configs : List Config) (links : List LinkRow) (keys : List (ℕ × List ℕ)) (xs ys : List SessionRow) →
+    AreSessions protocol configs links keys xs → AreSessions protocol configs links keys ys → xs ≡ ys
 same_sessions Ospf configs links keys xs ys h k = h ∙ sym k
 same_sessions Bgp configs links keys xs ys h k =
     ordered_once (IsSessionBefore configs links keys) (IsSession configs links keys)
@@ -54,7 +55,8 @@ same_rows doc configs distinct n m p q =
     }
 
 -- tries for reasons that make the same refusals have the same answers
-pub tried_same : {X : Type 0} (A B : Refusal → Type 0) (IsRight : X → Type 0) (result : Result X NetFault) → ((r : Refusal) → A r → B r) → ((r : Refusal) → B r → A r) → Tried A IsRight result → Tried B IsRight result
+pub tried_same : {X : Type 0} (A B : Refusal → Type 0) (IsRight : X → Type 0) (result : Result X NetFault) → ((r : Refusal) → A r → B r) →
+    ((r : Refusal) → B r → A r) → Tried A IsRight result → Tried B IsRight result
 tried_same A B IsRight (Ok x) to from said = (λ r bad. said.0 r (from r bad), said.1)
 tried_same A B IsRight (Err (Refused r)) to from said = record { made = to r said.made; first = λ other bad. said.first other (from other bad) }
 tried_same A B IsRight (Err Memory) to from said = tt
@@ -72,4 +74,5 @@ module _ (doc : Document) (configs : List Config) (distinct : AreDistinct (full_
 
   pub from_endpoint : (r : Refusal) → RefusesEndpoint doc configs r → InDocument kinds.Endpoint (λ (place : ℕ) (policy : Policy). ¬ HasEndpoints net policy.from policy.to) doc.policies r
   from_endpoint r bad =
-      subst (λ (n : Network). InDocument kinds.Endpoint (λ (place : ℕ) (policy : Policy). ¬ HasEndpoints n policy.from policy.to) doc.policies r) (same_rows doc configs distinct bad.net net bad.rows rows) bad.refuses
+      subst (λ (n : Network). InDocument kinds.Endpoint (λ (place : ℕ) (policy : Policy). ¬ HasEndpoints n policy.from policy.to) doc.policies r) (same_rows doc
+      configs distinct bad.net net bad.rows rows) bad.refuses

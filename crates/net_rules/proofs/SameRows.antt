@@ -74,7 +74,8 @@ one_subnet None o r h k = h ∙ sym k
 one_subnet (Some a) o r h k = one_some_prefix a.0 a.1 o r h k
 
 -- a list that is bound has one place
-pub one_list_place : (keys : List (ℕ × List ℕ)) → AreDistinct keys → (router : ℕ) (bound : Option (List ℕ)) (o r : Option ListId) → IsPlaceAmong keys router bound o → IsPlaceAmong keys router bound r → o ≡ r
+pub one_list_place : (keys : List (ℕ × List ℕ)) → AreDistinct keys → (router : ℕ) (bound : Option (List ℕ)) (o r : Option ListId) →
+    IsPlaceAmong keys router bound o → IsPlaceAmong keys router bound r → o ≡ r
 one_list_place keys distinct router bound None None h k = refl
 one_list_place keys distinct router None None (Some id) h k = absurd k
 one_list_place keys distinct router None (Some id) r h k = absurd h
@@ -85,7 +86,8 @@ one_list_place keys distinct router (Some name) (Some id) (Some other) h k =
     λ i. Some (record { 0 = same i })
 
 -- a file and an interface have one row
-pub one_face_row : (protocol : Protocol) (ends : List FullName) (keys : List (ℕ × List ℕ)) → AreDistinct keys → (site : Site) (f g : FaceRow) → IsFaceRow protocol ends keys site f → IsFaceRow protocol ends keys site g → f ≡ g
+pub one_face_row : (protocol : Protocol) (ends : List FullName) (keys : List (ℕ × List ℕ)) → AreDistinct keys → (site : Site) (f g : FaceRow) →
+    IsFaceRow protocol ends keys site f → IsFaceRow protocol ends keys site g → f ≡ g
 one_face_row protocol ends keys distinct site f g p q =
     let host : f.host ≡ g.host = elim (in_or_not ends (full_name site)) [
       | inl is_end ↦ p.host.at_end is_end ∙ sym (q.host.at_end is_end)
@@ -158,8 +160,10 @@ pub record AreSameRows (n m : Network) : Type 0 where
 pub same_base_rows : (doc : Document) (configs : List Config) → AreDistinct (full_names configs) → (n m : Network) → AreBaseRows doc configs n → AreBaseRows doc configs m → AreSameRows n m
 same_base_rows doc configs distinct n m p q =
     let protocol : n.protocol ≡ m.protocol = p.protocol ∙ sym q.protocol in
-    let packet_lists : n.packet_lists ≡ m.packet_lists = ordered_once _ (IsPacketListRow configs) (λ l r in_l in_r. pairs_one_way IsNameBefore names_one_way (l.router.0, l.name) (r.router.0, r.name)) n.packet_lists m.packet_lists p.packet_lists q.packet_lists in
-    let route_lists : n.route_lists ≡ m.route_lists = ordered_once _ (IsRouteListRow configs) (λ l r in_l in_r. pairs_one_way IsNameBefore names_one_way (l.router.0, l.name) (r.router.0, r.name)) n.route_lists m.route_lists p.route_lists q.route_lists in
+    let packet_lists : n.packet_lists ≡ m.packet_lists = ordered_once _ (IsPacketListRow configs)
+    (λ l r in_l in_r. pairs_one_way IsNameBefore names_one_way (l.router.0, l.name) (r.router.0, r.name)) n.packet_lists m.packet_lists p.packet_lists q.packet_lists in
+    let route_lists : n.route_lists ≡ m.route_lists = ordered_once _ (IsRouteListRow configs)
+    (λ l r in_l in_r. pairs_one_way IsNameBefore names_one_way (l.router.0, l.name) (r.router.0, r.name)) n.route_lists m.route_lists p.route_lists q.route_lists in
     let keys : List (ℕ × List ℕ) = map packet_list_key m.packet_lists in
     let n_faces : AllZip (IsFaceRow m.protocol (ends_of doc.links) keys) (sites configs) n.faces =
     subst (λ (o : Protocol). AllZip (IsFaceRow o (ends_of doc.links) keys) (sites configs) n.faces) protocol
@@ -168,7 +172,8 @@ same_base_rows doc configs distinct n m p q =
     record {
       protocol = protocol;
       routers = one_partner (IsRouterRow m.protocol) (one_router_row m.protocol) configs n.routers m.routers n_routers q.routers;
-      faces = one_partner (IsFaceRow m.protocol (ends_of doc.links) keys) (one_face_row m.protocol (ends_of doc.links) keys (packet_keys_differ configs m.packet_lists q.packet_lists)) (sites configs) n.faces m.faces n_faces q.faces;
+      faces = one_partner (IsFaceRow m.protocol (ends_of doc.links) keys) (one_face_row m.protocol (ends_of doc.links) keys (packet_keys_differ configs m.packet_lists q.packet_lists))
+          (sites configs) n.faces m.faces n_faces q.faces;
       links = one_partner (IsLinkRow (full_names configs)) (one_link_row (full_names configs) distinct) doc.links n.links m.links p.links q.links;
       packet_lists = packet_lists;
       route_lists = route_lists;

@@ -1,8 +1,8 @@
 //! What a file says of an interface: its address, its subnet and its OSPF network type.
+ghost use Rattle.net_rules.specs.Rows.{IsSubnet};
+ghost use Rattle.net_rules.specs.Settings.{value, address_of, is_point_to_point};
 ghost use Rattle.std.specs.Prelude.{◌≡◌, ◌≤◌, Some, None, option_map, IfSome, unwrap_or, slice_get};
 ghost use Rattle.std.specs.Prelude.{option_and_then};
-ghost use Rattle.net_rules.specs.Settings.{value, address_of, is_point_to_point};
-ghost use Rattle.net_rules.specs.Rows.{IsSubnet};
 
 use crate::kinds::FaceKind;
 use crate::prefixes::prefix_at;

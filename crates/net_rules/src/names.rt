@@ -1,9 +1,9 @@
 //! The full names of interfaces, in indexes that hold them by reference.
+ghost use Rattle.arc_base.specs.Lists.{AreDistinct};
+ghost use Rattle.net_rules.specs.Names.{names_at, file_names};
+ghost use Rattle.net_rules.specs.Sites.{full_names, host_name};
 ghost use Rattle.std.specs.Prelude.{◌≡◌, ◌<◌, [], ◌∷◌, ◌++◌, Contains, IfOk, MatchBool};
 ghost use Rattle.std.specs.Prelude.{MatchOption, Some, slice_get, OnOk, IsTrue, ◌↔◌};
-ghost use Rattle.net_rules.specs.Sites.{full_names, host_name};
-ghost use Rattle.net_rules.specs.Names.{names_at, file_names};
-ghost use Rattle.arc_base.specs.Lists.{AreDistinct};
 
 use arc_base::{List, Memory};
 use indexmap::IndexSet;

@@ -1,8 +1,8 @@
 //! Prefixes in indexes, and the prefix of a length that holds an address.
-ghost use Rattle.std.specs.Prelude.{◌≤◌, ◌≡◌, ◌↔◌, ◌⊎◌, IfOk, IsTrue};
 ghost use Rattle.arc_base.specs.declared.prefix.Prefix.{Prefix};
-ghost use Rattle.net_rules.specs.Settings.{IsPrefixAt};
 ghost use Rattle.net_rules.specs.Prefixes.{HasPrefix, HasPrefixOf};
+ghost use Rattle.net_rules.specs.Settings.{IsPrefixAt};
+ghost use Rattle.std.specs.Prelude.{◌≤◌, ◌≡◌, ◌↔◌, ◌⊎◌, IfOk, IsTrue};
 
 use arc_base::{Memory, Prefix};
 use indexmap::IndexSet;

@@ -1,8 +1,8 @@
 //! The one routing process of a file, its lines, and the protocol of the network.
-ghost use Rattle.std.specs.Prelude.{◌≡◌};
-ghost use Rattle.std.specs.Option.{option_copied};
-ghost use Rattle.net_rules.specs.Settings.{process_of, lines_of};
 ghost use Rattle.net_rules.specs.Routers.{protocol_of, protocol_of_kind};
+ghost use Rattle.net_rules.specs.Settings.{process_of, lines_of};
+ghost use Rattle.std.specs.Option.{option_copied};
+ghost use Rattle.std.specs.Prelude.{◌≡◌};
 
 use arc_base::List;
 use ios_config::{Config, Given, ProcessKind, ProcessText};

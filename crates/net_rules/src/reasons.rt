@@ -1,6 +1,6 @@
 //! Refusals of files and of items of the document.
-ghost use Rattle.std.specs.Prelude.{◌≡◌, ◌+◌, ◌<◌, ◌^◌};
 ghost use Rattle.net_doc.specs.declared.fault.NetFault.TheVariants.{Refused};
+ghost use Rattle.std.specs.Prelude.{◌≡◌, ◌+◌, ◌<◌, ◌^◌};
 
 use arc_base::Kind;
 use net_doc::{NetFault, Refusal};

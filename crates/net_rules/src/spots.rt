@@ -1,7 +1,7 @@
 //! Where an interface is in its file.
+ghost use Rattle.net_rules.specs.Sites.{sites};
 ghost use Rattle.std.specs.Prelude.{◌≡◌, ◌≤◌, ◌<◌, Some, IfSome, IsSomeAnd, MatchOption, length};
 ghost use Rattle.std.specs.Prelude.{slice_get};
-ghost use Rattle.net_rules.specs.Sites.{sites};
 
 use arc_base::List;
 use ios_config::{Config, FaceText};

@@ -1,10 +1,10 @@
 //! OSPF at every end of a link, and every host network advertised.
-ghost use Rattle.std.specs.Prelude.{◌≡◌, ◌↔◌, IsTrue, IfSome, slice_get, All};
-ghost use Rattle.net_model.specs.Validity.{IsValid};
-ghost use Rattle.net_model.specs.declared.rows.Protocol.TheVariants.{Ospf};
 ghost use Rattle.any_forwarding_laws.specs.Forwardings.{IsOpenNetwork};
 ghost use Rattle.any_forwarding_laws.specs.Laws.{RunsEverywhere, VerdictsDecideAny};
+ghost use Rattle.net_model.specs.Validity.{IsValid};
+ghost use Rattle.net_model.specs.declared.rows.Protocol.TheVariants.{Ospf};
 ghost use Rattle.open_networks.specs.Ends.{IsActiveIfUp, HasActiveEnds, TellsHost};
+ghost use Rattle.std.specs.Prelude.{◌≡◌, ◌↔◌, IsTrue, IfSome, slice_get, All};
 
 use arc_base::Face;
 use net_model::{FaceRow, LinkRow, Network, Protocol};

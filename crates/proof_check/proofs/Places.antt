@@ -1,5 +1,6 @@
 -- What stands at the places of clauses where literals are added, moved and cut off.
-use Rattle.std.proofs.Common.{◌≡◌, ℕ, zero, suc, ◌+◌, ◌-◌, ◌<◌, ◌≤◌, max, List, [], ◌∷◌, ◌++◌, length, take, drop, map, refl, ap, ap₂, sym, ◌∙◌, arith, All, Option, Some, None, cond, ◌==◌, ⊎_elim, length-append, length-drop, length-take-le}
+use Rattle.std.proofs.Common.{◌≡◌, ℕ, zero, suc, ◌+◌, ◌-◌, ◌<◌, ◌≤◌, max, List, [], ◌∷◌, ◌++◌, length, take, drop}
+use Rattle.std.proofs.Common.{map, refl, ap, ap₂, sym, ◌∙◌, arith, All, Option, Some, None, cond, ◌==◌, ⊎_elim, length-append, length-drop, length-take-le}
 use Rattle.std.specs.Prelude.{slice_set}
 use Rattle.std.proofs.Math.Seq.{drop-append_seam}
 use Rattle.std.proofs.Math.Seq.{paste}
@@ -72,7 +73,9 @@ module _ (lits : List Lit) (p : Place) (end : ℕ) (fits : IsPlace (length lits)
       omega arith
 
   pub moved_front : take end moved ≡ take end lits
-  moved_front = take-append-le end (take end lits ++ take count (drop p.start lits)) (drop (end + count) lits) (omega (arith, length-append (take end lits) (take count (drop p.start lits)), length-take-le end lits within)) ∙ take_at (take end lits) (take count (drop p.start lits)) end (length-take-le end lits within)
+  moved_front = take-append-le end (take end lits ++ take count (drop p.start lits)) (drop (end + count) lits)
+      (omega (arith, length-append (take end lits) (take count (drop p.start lits)), length-take-le end lits within))
+      ∙ take_at (take end lits) (take count (drop p.start lits)) end (length-take-le end lits within)
 
   pub moved_back : drop (end + count) moved ≡ drop (end + count) lits
   moved_back = drop-paste lits end (drop p.start lits) count within enough
@@ -118,7 +121,9 @@ moved_end end p first begins = ⊎_elim
     (cases_eq p.stop 0)
 
 -- one clause is moved, those before it and behind it are not
-pub moved_clauses : (f g : Place → Option (List Lit)) (end from : ℕ) (ps : List Place) (row : ℕ) (p q : Place) → row < length ps → drop row ps ≡ p ∷ drop (row + 1) ps → All (IsPlace end) (take row ps) → IsRising from (drop (row + 1) ps) → ((r : Place) → IsPlace end r → g r ≡ f r) → g q ≡ f p → ((r : Place) → (0 < r.stop → from ≤ r.start) → g r ≡ f r) → map g (slice_set ps row q) ≡ map f ps
+pub moved_clauses : (f g : Place → Option (List Lit)) (end from : ℕ) (ps : List Place) (row : ℕ) (p q : Place) → row < length ps →
+    drop row ps ≡ p ∷ drop (row + 1) ps → All (IsPlace end) (take row ps) → IsRising from (drop (row + 1) ps) → ((r : Place) → IsPlace end r → g r ≡ f r) →
+    g q ≡ f p → ((r : Place) → (0 < r.stop → from ≤ r.start) → g r ≡ f r) → map g (slice_set ps row q) ≡ map f ps
 moved_clauses f g end from ps row p q within rest_is front back same here later =
     let rest : List Place = drop (row + 1) ps in
     let set_is : slice_set ps row q ≡ take row ps ++ q ∷ rest = sym (take-append-drop row (slice_set ps row q)) ∙ ap₂ (λ xs ys. xs ++ ys) (take-set ps row q) (drop-set ps row q within) in

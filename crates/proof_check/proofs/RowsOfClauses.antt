@@ -1,5 +1,6 @@
 -- The clauses of a formula in the rows of a table.
-use Rattle.std.proofs.Common.{◌≡◌, ℕ, suc, zero, ◌+◌, ◌-◌, ◌≤◌, List, [], ◌∷◌, length, map, drop, refl, ap, ap₂, sym, ◌∙◌, arith, All, Some, None, option_map, slice_get, sum_by, ⊎_elim, length-drop, length-take-le}
+use Rattle.std.proofs.Common.{◌≡◌, ℕ, suc, zero, ◌+◌, ◌-◌, ◌≤◌, List, [], ◌∷◌, length, map, drop, refl}
+use Rattle.std.proofs.Common.{ap, ap₂, sym, ◌∙◌, arith, All, Some, None, option_map, slice_get, sum_by, ⊎_elim, length-drop, length-take-le}
 use Rattle.std.proofs.lemmas.Bool.{cases_eq, cond-true, cond-false, eq-eqb, ne_eqb}
 use Rattle.std.proofs.lemmas.List.Elements.{All-head, All-tail}
 use Rattle.std.proofs.lemmas.List.Sums.{sum_by-cons}
@@ -34,4 +35,5 @@ size_of_row lits p fits = ⊎_elim
 pub sizes_at_places : (lits : List Lit) (ps : List Place) → All (IsPlace (length lits)) ps → sum_by row_size (map (clause_at lits) ps) ≡ sum_by size ps
 sizes_at_places lits [] fits = refl
 sizes_at_places lits (p ∷ ps) fits =
-    sum_by-cons row_size (clause_at lits p) (map (clause_at lits) ps) ∙ ap₂ (λ n m. n + m) (size_of_row lits p (All-head (IsPlace (length lits)) p ps fits)) (sizes_at_places lits ps (All-tail (IsPlace (length lits)) p ps fits)) ∙ sym (sum_by-cons size p ps)
+    sum_by-cons row_size (clause_at lits p) (map (clause_at lits) ps) ∙ ap₂ (λ n m. n + m) (size_of_row lits p (All-head (IsPlace (length lits)) p ps fits))
+    (sizes_at_places lits ps (All-tail (IsPlace (length lits)) p ps fits)) ∙ sym (sum_by-cons size p ps)

@@ -1,5 +1,6 @@
 -- A refuting log refutes the formula with the bounds.
-use Rattle.std.proofs.Common.{◌≡◌, ℕ, suc, zero, ◌<◌, Bool, true, false, cond, ◌||◌, ◌==◌, nat_lt, List, [], ◌∷◌, length, map, refl, ap, sym, ◌∙◌, Option, Some, None, IsTrue, slice_get, get_or, option_map, IfSome, ⊎_elim, subst}
+use Rattle.std.proofs.Common.{◌≡◌, ℕ, suc, zero, ◌<◌, Bool, true, false, cond, ◌||◌, ◌==◌, nat_lt, List, [], ◌∷◌}
+use Rattle.std.proofs.Common.{length, map, refl, ap, sym, ◌∙◌, Option, Some, None, IsTrue, slice_get, get_or, option_map, IfSome, ⊎_elim, subst}
 use Rattle.std.specs.List.{list_any}
 use Rattle.std.specs.Option.{option_to_list}
 use Rattle.std.proofs.lemmas.Bool.{false≢true, or_cases, ltb-true}
@@ -35,7 +36,8 @@ module _ (a : ℕ → Bool) where
   formula_live f holds (suc n) lits e =
       clause_of (slice_get f.clauses n) lits e (λ d is. ap (λ (c : Clause). clause_value a c.lits) (sym (get_or_from_slice_get f.clauses n d d is)) ∙ holds n d (slice_get_within f.clauses n d is))
 
-  with_test : (clause : ℕ → Option (List Lit)) (lits ls : List Lit) (j : ℕ) (b : Bool) → LiveTrue a clause → clause_value a lits ≡ true → cond b (Some lits) (clause j) ≡ Some ls → clause_value a ls ≡ true
+  with_test : (clause : ℕ → Option (List Lit)) (lits ls : List Lit) (j : ℕ) (b : Bool) → LiveTrue a clause → clause_value a lits ≡ true →
+      cond b (Some lits) (clause j) ≡ Some ls → clause_value a ls ≡ true
   with_test clause lits ls j true live e h = ap (clause_value a) (sym (same_Some lits ls h)) ∙ e
   with_test clause lits ls j false live e h = live j ls h
 
@@ -83,7 +85,8 @@ module _ (a : ℕ → Bool) where
   step_live k (Drop ids) live none keeps = without_live k.clause ids live
   step_live k (Bound id price) live none keeps =
       let within = bound_within k id price none in
-      with_live k.clause id (bound_clause k.tops price) live (bound_value (slice_get k.tops price) (get_or k.tops price (record { code = 0 })) (slice_get-get_or k.tops price (record { code = 0 }) within) keeps)
+      with_live k.clause id (bound_clause k.tops price) live
+      (bound_value (slice_get k.tops price) (get_or k.tops price (record { code = 0 })) (slice_get-get_or k.tops price (record { code = 0 }) within) keeps)
 
   empty_false : (lits : List Lit) → is_empty lits ≡ true → clause_value a lits ≡ true → ⊥
   empty_false [] e h = false≢true h
@@ -100,8 +103,10 @@ module _ (a : ℕ → Bool) where
   sound_from k [] live accepted keeps refuting = false≢true refuting
   sound_from k (s ∷ steps) live accepted keeps refuting = ⊎_elim
       (λ (here : adds_empty s ≡ true). no_empty k s live accepted.0 here)
-      (λ (there : list_any adds_empty steps ≡ true). sound_from (after k s) steps (step_live k s live accepted.0 keeps.0) accepted.1 (subst (λ tops. KeepsBounds a tops steps) (sym (tops_kept k s)) keeps.1) there)
+      (λ (there : list_any adds_empty steps ≡ true). sound_from (after k s) steps (step_live k s live accepted.0 keeps.0) accepted.1
+      (subst (λ tops. KeepsBounds a tops steps) (sym (tops_kept k s)) keeps.1) there)
       (or_cases (adds_empty s) (list_any adds_empty steps) refuting)
 
-pub sound : (f : Formula) (least : Option ℕ) (tops : List Lit) (steps : List Step) → IsAccepted (start f least tops) steps → IsRefuting steps → (a : ℕ → Bool) → Satisfies a f → KeepsBounds a tops steps → ⊥
+pub sound : (f : Formula) (least : Option ℕ) (tops : List Lit) (steps : List Step) → IsAccepted (start f least tops) steps → IsRefuting steps → (a : ℕ → Bool) →
+    Satisfies a f → KeepsBounds a tops steps → ⊥
 sound f least tops steps accepted refuting a holds keeps = sound_from a (start f least tops) steps (formula_live a f holds) accepted keeps refuting

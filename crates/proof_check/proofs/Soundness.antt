@@ -38,8 +38,10 @@ negated_odd l h = ap (λ b. of_code (cond b (l.code + 1) (l.code - 1))) (ne_eqb 
 -- the negation is true where the literal is false
 pub value-negated : (a : ℕ → Bool) (l : Lit) → value a (negated l) ≡ not (value a l)
 value-negated a l = ⊎_elim
-    (λ (e : l.code % 2 ≡ 0). ap (value a) (negated_even l e) ∙ value_odd a (l.code + 1) (λ h. omega arith) ∙ ap (λ n. not (a n)) (let half : (l.code + 1) / 2 ≡ l.code / 2 = omega arith in half) ∙ sym (ap not (value_even a l.code e)))
-    (λ (h : l.code % 2 ≡ 0 → ⊥). ap (value a) (negated_odd l h) ∙ value_even a (l.code - 1) (omega arith) ∙ ap a (let half : (l.code - 1) / 2 ≡ l.code / 2 = omega arith in half) ∙ sym (not_not (a (l.code / 2))) ∙ sym (ap not (value_odd a l.code h)))
+    (λ (e : l.code % 2 ≡ 0). ap (value a) (negated_even l e) ∙ value_odd a (l.code + 1) (λ h. omega arith)
+    ∙ ap (λ n. not (a n)) (let half : (l.code + 1) / 2 ≡ l.code / 2 = omega arith in half) ∙ sym (ap not (value_even a l.code e)))
+    (λ (h : l.code % 2 ≡ 0 → ⊥). ap (value a) (negated_odd l h) ∙ value_even a (l.code - 1) (omega arith) ∙ ap a (let half : (l.code - 1) / 2 ≡ l.code / 2 = omega arith in half)
+    ∙ sym (not_not (a (l.code / 2))) ∙ sym (ap not (value_odd a l.code h)))
     (cases_eq (l.code % 2) 0)
 
 -- the assignment makes the literals of a set false, and the live clauses true
@@ -51,7 +53,8 @@ LiveTrue a clause = (id : ℕ) (lits : List Lit) → clause id ≡ Some lits →
 
 module _ (a : ℕ → Bool) where
   -- false literals make no difference to a clause
-  left_step : (falses : Lit → Bool) (l : Lit) (ls : List Lit) (b : Bool) → AllFalse a falses → falses l ≡ b → clause_value a (left falses ls) ≡ clause_value a ls → clause_value a (cond (not b) (l ∷ left falses ls) (left falses ls)) ≡ clause_value a (l ∷ ls)
+  left_step : (falses : Lit → Bool) (l : Lit) (ls : List Lit) (b : Bool) → AllFalse a falses → falses l ≡ b →
+      clause_value a (left falses ls) ≡ clause_value a ls → clause_value a (cond (not b) (l ∷ left falses ls) (left falses ls)) ≡ clause_value a (l ∷ ls)
   left_step falses l ls true all e rest = rest ∙ sym (ap (λ v. v || clause_value a ls) (all l e))
   left_step falses l ls false all e rest = ap (λ v. value a l || v) rest
 
@@ -76,7 +79,8 @@ module _ (a : ℕ → Bool) where
       (λ (there : falses m ≡ true). all m there)
       (or_cases (same (negated l) m) (falses m) h)
 
-  by_unit : (l : Lit) (ls : List Lit) (place : ℕ) (next : Lit → Option StepFault) (b : Bool) → list_all (same l) ls ≡ b → clause_value a (l ∷ ls) ≡ true → ((m : Lit) → value a m ≡ true → next m ≡ None → ⊥) → left_fault (cond b (One l) More) place next ≡ None → ⊥
+  by_unit : (l : Lit) (ls : List Lit) (place : ℕ) (next : Lit → Option StepFault) (b : Bool) → list_all (same l) ls ≡ b → clause_value a (l ∷ ls) ≡ true →
+      ((m : Lit) → value a m ≡ true → next m ≡ None → ⊥) → left_fault (cond b (One l) More) place next ≡ None → ⊥
   by_unit l ls place next true alike e rest none = rest l (one_true l ls alike e) none
   by_unit l ls place next false alike e rest none = absurd (none-some (HintNotUnit place) (sym none))
 
@@ -84,7 +88,8 @@ module _ (a : ℕ → Bool) where
   by_left [] place next e rest none = absurd (false≢true e)
   by_left (l ∷ ls) place next e rest none = by_unit l ls place next (list_all (same l) ls) refl e rest none
 
-  by_clause : (o : Option (List Lit)) (falses : Lit → Bool) (place : ℕ) (next : Lit → Option StepFault) → ((lits : List Lit) → o ≡ Some lits → clause_value a lits ≡ true) → AllFalse a falses → ((m : Lit) → value a m ≡ true → next m ≡ None → ⊥) → hint_fault o falses place next ≡ None → ⊥
+  by_clause : (o : Option (List Lit)) (falses : Lit → Bool) (place : ℕ) (next : Lit → Option StepFault) →
+      ((lits : List Lit) → o ≡ Some lits → clause_value a lits ≡ true) → AllFalse a falses → ((m : Lit) → value a m ≡ true → next m ≡ None → ⊥) → hint_fault o falses place next ≡ None → ⊥
   by_clause None falses place next live all rest none = absurd (none-some (UnknownId place) (sym none))
   by_clause (Some lits) falses place next live all rest none =
       by_left (left falses lits) place next (left_value falses lits all ∙ live lits refl) rest none
@@ -94,7 +99,8 @@ module _ (a : ℕ → Bool) where
   chain_sound clause live [] falses place all none = absurd (none-some NoConflict (sym none))
   chain_sound clause live (negsuc n ∷ hints) falses place all none = absurd (none-some (NegativeHint place) (sym none))
   chain_sound clause live (pos id ∷ hints) falses place all none =
-      by_clause (clause id) falses place (λ l. chain_fault clause (with_literal (negated l) falses) (place + 1) hints) (live id) all (λ m e next. chain_sound clause live hints (with_literal (negated m) falses) (place + 1) (negation_false falses m all e) next) none
+      by_clause (clause id) falses place (λ l. chain_fault clause (with_literal (negated l) falses) (place + 1) hints) (live id) all (λ m e next. chain_sound
+      clause live hints (with_literal (negated m) falses) (place + 1) (negation_false falses m all e) next) none
 
   -- a literal of a false clause is false
   none_true : (lits : List Lit) → clause_value a lits ≡ false → AllFalse a (is_among lits)

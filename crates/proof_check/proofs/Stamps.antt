@@ -18,7 +18,8 @@ pub all_cleared : (current : ℕ) (stamps : List ℕ) → All (λ stamp. stamp �
 all_cleared current [] before = refl
 all_cleared current (stamp ∷ stamps) before =
     let here : stamp ≤ current = before 0 0 (omega arith) in
-    ap (λ b. b ∷ flags (current + 1) stamps) (ne_eqb stamp (current + 1) (λ e. omega (arith, here, e))) ∙ ap (λ rest. false ∷ rest) (all_cleared current stamps (λ k d within. before (suc k) d (omega arith)))
+    ap (λ b. b ∷ flags (current + 1) stamps) (ne_eqb stamp (current + 1) (λ e. omega (arith, here, e)))
+    ∙ ap (λ rest. false ∷ rest) (all_cleared current stamps (λ k d within. before (suc k) d (omega arith)))
 
 -- a stamp that is the current one sets its flag
 pub one_set : (current : ℕ) (stamps : List ℕ) (place : ℕ) → flags current (slice_set stamps place current) ≡ slice_set (flags current stamps) place true

@@ -14,7 +14,8 @@ no_flag (suc count) (suc place) = no_flag count place
 
 pub none_marked : (marks : Marks) (count : ℕ) → marks.near ≡ replicate count false → marks.far.keys ≡ [] → (m : Lit) → is_marked marks m ≡ false
 none_marked marks count near far m =
-    ap (λ flags. unwrap_or (slice_get flags m.code) (list_any (nat_eq m.code) marks.far.keys)) near ∙ ap (λ keys. unwrap_or (slice_get (replicate count false) m.code) (list_any (nat_eq m.code) keys)) far ∙ no_flag count m.code
+    ap (λ flags. unwrap_or (slice_get flags m.code) (list_any (nat_eq m.code) marks.far.keys)) near ∙ ap (λ keys. unwrap_or
+    (slice_get (replicate count false) m.code) (list_any (nat_eq m.code) keys)) far ∙ no_flag count m.code
 
 -- a list of no length is empty
 pub no_items : {X : Type 0} (xs : List X) → length xs ≡ 0 → xs ≡ []

@@ -67,11 +67,15 @@ judged_less k s None h = absurd h
 judged_less k s (Some steps) h = ((h.0).0, ((h.0).1, refuted_more k s (list_any adds_empty steps) ∙ h.1))
 
 -- from an accepted text to its steps
-to_step : (k : Knowledge) (s : Step) (n : ℕ) (ls : List (List ℕ)) (o : Option StepFault) → step_fault k s ≡ o → (log_outcome (after k s) (n + 1) ls ≡ Accepted → Judged (after k s) (steps_of ls)) → rejected_or (option_map Fault o) n (log_outcome (after k s) (n + 1) ls) ≡ Accepted → Judged k (option_map (λ steps. s ∷ steps) (steps_of ls))
+to_step : (k : Knowledge) (s : Step) (n : ℕ) (ls : List (List ℕ)) (o : Option StepFault) → step_fault k s ≡ o →
+    (log_outcome (after k s) (n + 1) ls ≡ Accepted → Judged (after k s) (steps_of ls)) →
+    rejected_or (option_map Fault o) n (log_outcome (after k s) (n + 1) ls) ≡ Accepted → Judged k (option_map (λ steps. s ∷ steps) (steps_of ls))
 to_step k s n ls None none rest e = judged_more k s (steps_of ls) none (rest e)
 to_step k s n ls (Some fault) some rest e = absurd (not_accepted n (Fault fault) e)
 
-to_line : (r : Result (Option Step) LineKind) (k : Knowledge) (n : ℕ) (ls : List (List ℕ)) → ((j : Knowledge) → log_outcome j (n + 1) ls ≡ Accepted → Judged j (steps_of ls)) → rejected_or (line_rejection r k) n (log_outcome (line_after r k) (n + 1) ls) ≡ Accepted → Judged k (with_line r (steps_of ls))
+to_line : (r : Result (Option Step) LineKind) (k : Knowledge) (n : ℕ) (ls : List (List ℕ)) →
+    ((j : Knowledge) → log_outcome j (n + 1) ls ≡ Accepted → Judged j (steps_of ls)) →
+    rejected_or (line_rejection r k) n (log_outcome (line_after r k) (n + 1) ls) ≡ Accepted → Judged k (with_line r (steps_of ls))
 to_line (Err kind) k n ls rest e = absurd (not_accepted n Form e)
 to_line (Ok None) k n ls rest e = rest k e
 to_line (Ok (Some s)) k n ls rest e = to_step k s n ls (step_fault k s) refl (rest (after k s)) e
@@ -81,7 +85,9 @@ to_steps [] n k e = (tt, at_end k.refuted n e)
 to_steps (line ∷ ls) n k e = to_line (reading line) k n ls (to_steps ls (n + 1)) e
 
 -- and back
-from_line : (r : Result (Option Step) LineKind) (k : Knowledge) (n : ℕ) (ls : List (List ℕ)) → ((j : Knowledge) → Judged j (steps_of ls) → log_outcome j (n + 1) ls ≡ Accepted) → Judged k (with_line r (steps_of ls)) → rejected_or (line_rejection r k) n (log_outcome (line_after r k) (n + 1) ls) ≡ Accepted
+from_line : (r : Result (Option Step) LineKind) (k : Knowledge) (n : ℕ) (ls : List (List ℕ)) →
+    ((j : Knowledge) → Judged j (steps_of ls) → log_outcome j (n + 1) ls ≡ Accepted) → Judged k (with_line r (steps_of ls)) →
+    rejected_or (line_rejection r k) n (log_outcome (line_after r k) (n + 1) ls) ≡ Accepted
 from_line (Err kind) k n ls rest h = absurd h
 from_line (Ok None) k n ls rest h = rest k h
 from_line (Ok (Some s)) k n ls rest h =

@@ -1,7 +1,7 @@
 //! The checker of proof logs.
+ghost use Rattle.cnf_types.specs.Dimacs.{is_zero, literal_of};
 ghost use Rattle.std.specs.Prelude.{◌≡◌, ◌+◌, ◌<◌, ◌≤◌, ◌^◌, All, OnOk, false, length, map};
 ghost use Rattle.std.specs.Prelude.{unsigned_abs};
-ghost use Rattle.cnf_types.specs.Dimacs.{is_zero, literal_of};
 
 use crate::faults::StepFault;
 use crate::hints::follow;
@@ -45,14 +45,14 @@ fn read_literals(lits: &mut Vec<Lit>, numbers: &[i64]) -> Result<(), Memory>
 }
 
 impl Checker {
+    ghost use Rattle.cnf_types.specs.Dimacs.{is_zero, literal_of, reading, IsFaultOf};
+    ghost use Rattle.cnf_types.specs.Formulas.{Satisfies};
+    ghost use Rattle.proof_check.specs.Knowledge.{start, step_fault, after, IsFirst};
+    ghost use Rattle.proof_check.specs.Logs.{after_all, IsAccepted, IsRefuting, KeepsBounds};
+    ghost use Rattle.proof_check.specs.View.{known};
     ghost use Rattle.std.specs.Prelude.{◌≡◌, ◌<◌, ◌^◌, length, None, IfOk, IfErr, OnOk, OnErr, ℕ};
     ghost use Rattle.std.specs.Prelude.{Bool, List as Items, IsTrue, ◌↔◌, nat_lt, All, false, map};
     ghost use Rattle.std.specs.Prelude.{unsigned_abs, IsOkAnd};
-    ghost use Rattle.cnf_types.specs.Dimacs.{is_zero, literal_of, reading, IsFaultOf};
-    ghost use Rattle.cnf_types.specs.Formulas.{Satisfies};
-    ghost use Rattle.proof_check.specs.Logs.{after_all, IsAccepted, IsRefuting, KeepsBounds};
-    ghost use Rattle.proof_check.specs.Knowledge.{start, step_fault, after, IsFirst};
-    ghost use Rattle.proof_check.specs.View.{known};
 
     /// A checker that knows the formula of these clauses over the variables from 1 to `vars`.
     #[inline(never)]

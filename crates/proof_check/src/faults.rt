@@ -25,8 +25,8 @@ pub enum StepFault {
 }
 
 impl From<Memory> for StepFault {
-    ghost use Rattle.std.specs.Prelude.{◌≡◌};
     ghost use Rattle.proof_check.specs.declared.faults.StepFault.TheVariants.{Memory};
+    ghost use Rattle.std.specs.Prelude.{◌≡◌};
 
     ghost from_gives = { λ _ fault. fault ≡ Memory };
 

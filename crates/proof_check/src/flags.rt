@@ -36,7 +36,7 @@ impl Flags {
         })
     }
 
-    /// Takes all flags away.
+    /// Clears all flags, in constant time but once in 2^32 calls.
     pub fn clear(&mut self)
         ensures { self.new ≡ replicate (length self.old) false }
     {

@@ -1,8 +1,8 @@
 //! Unit propagation along the hints of a step.
-ghost use Rattle.std.specs.Prelude.{◌≡◌, ◌<◌, ◌^◌, length, None, OnOk, IfErr};
-ghost use Rattle.proof_check.specs.Propagation.{chain_fault, is_among};
 ghost use Rattle.proof_check.specs.Knowledge.{IsFirst};
+ghost use Rattle.proof_check.specs.Propagation.{chain_fault, is_among};
 ghost use Rattle.proof_check.specs.View.{clause_in};
+ghost use Rattle.std.specs.Prelude.{◌≡◌, ◌<◌, ◌^◌, length, None, OnOk, IfErr};
 
 use crate::faults::StepFault;
 use crate::left::{Left, Marks};

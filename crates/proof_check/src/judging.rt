@@ -1,14 +1,13 @@
 //! The judgement of a proof text.
-ghost use Rattle.std.specs.Prelude.{◌≡◌, ℕ, ◌↔◌, [], ◌<◌, ◌^◌, length, All, Bool, None, IfOk};
-ghost use Rattle.std.specs.Prelude.{IsNone};
-ghost use Rattle.std.specs.Prelude.{unsigned_abs};
 ghost use Rattle.arc_base.specs.TextLines.{lines};
 ghost use Rattle.cnf_types.specs.Formulas.{Satisfies};
-ghost use Rattle.proof_log.specs.Reading.{formed, ok_or_bad_line, reading};
 ghost use Rattle.proof_check.specs.Knowledge.{start};
 ghost use Rattle.proof_check.specs.Outcomes.{fault_kind, line_rejection, line_after, log_outcome};
 ghost use Rattle.proof_check.specs.Outcomes.{IsRefutation};
 ghost use Rattle.proof_check.specs.View.{known};
+ghost use Rattle.proof_log.specs.Reading.{formed, ok_or_bad_line, reading};
+ghost use Rattle.std.specs.Prelude.{◌≡◌, ℕ, ◌↔◌, [], ◌<◌, ◌^◌, All, Bool, None, IfOk, IsNone};
+ghost use Rattle.std.specs.Prelude.{unsigned_abs};
 
 use crate::checker::Checker;
 use crate::faults::StepFault;

@@ -1,7 +1,7 @@
 //! What of a clause is left when some literals are false.
-ghost use Rattle.std.specs.Prelude.{◌≡◌, [], length, OnOk, IfOk};
-ghost use Rattle.proof_check.specs.Propagation.{left, left_of, is_among, with_literal};
 ghost use Rattle.proof_check.specs.Marks.{is_marked};
+ghost use Rattle.proof_check.specs.Propagation.{left, left_of, is_among, with_literal};
+ghost use Rattle.std.specs.Prelude.{◌≡◌, [], length, OnOk, IfOk};
 
 use crate::flags::Flags;
 use arc_base::Memory;

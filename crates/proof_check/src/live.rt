@@ -1,8 +1,8 @@
 //! Live clauses under their ids.
-ghost use Rattle.std.specs.Prelude.{◌≡◌, [], ◌∷◌, ℕ, ◌+◌, ◌<◌, ◌≤◌, ◌^◌, length, position};
-ghost use Rattle.std.specs.Prelude.{is_none, option_map, IfOk, OnOk, OnErr};
 ghost use Rattle.proof_check.specs.Knowledge.{formula_clause, with_clause, without_clauses};
 ghost use Rattle.proof_check.specs.View.{clause_in};
+ghost use Rattle.std.specs.Prelude.{◌≡◌, [], ◌∷◌, ℕ, ◌+◌, ◌<◌, ◌≤◌, length, position, is_none};
+ghost use Rattle.std.specs.Prelude.{option_map, OnOk, OnErr};
 
 use crate::rows::Rows;
 use crate::tables::Table;

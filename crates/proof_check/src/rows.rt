@@ -1,6 +1,6 @@
 //! The clauses of a formula in the rows of a table, as they are read.
-ghost use Rattle.std.specs.Prelude.{◌≡◌, ◌<◌, ◌^◌, [], IfOk, length};
 ghost use Rattle.proof_check.specs.Rows.{rows_of};
+ghost use Rattle.std.specs.Prelude.{◌≡◌, ◌<◌, ◌^◌, [], IfOk, length};
 
 use crate::tables::Table;
 use arc_base::Memory;
@@ -16,9 +16,9 @@ pub(crate) struct Rows {
 }
 
 impl Model for Rows {
-    ghost use Rattle.std.specs.Prelude.{◌≡◌, List};
     ghost use Rattle.cnf_types.specs.declared.clauses.Clause.{Clause};
     ghost use Rattle.proof_check.specs.Rows.{clauses_of, rows_of};
+    ghost use Rattle.std.specs.Prelude.{◌≡◌, List};
 
     ghost Value = { List Clause };
 

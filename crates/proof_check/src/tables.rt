@@ -1,9 +1,9 @@
 //! Clauses in the rows of a table, whose literals are one behind another in one vector.
+ghost use Rattle.proof_check.specs.Places.{nowhere, size, clause_at, IsPlace, IsRising};
+ghost use Rattle.proof_check.specs.Rows.{row_size};
 ghost use Rattle.std.specs.Prelude.{◌≡◌, ◌≤◌, ◌<◌, ◌+◌, ◌-◌, ◌++◌, [], ◌∷◌, All, length, map, max};
 ghost use Rattle.std.specs.Prelude.{option_map, slice_get, slice_set, sum_by, Some, None};
 ghost use Rattle.std.specs.Prelude.{OnOk, OnErr};
-ghost use Rattle.proof_check.specs.Places.{nowhere, size, clause_at, IsPlace, IsRising};
-ghost use Rattle.proof_check.specs.Rows.{row_size};
 
 use arc_base::Memory;
 use cnf_types::Lit;
@@ -108,8 +108,8 @@ pub(crate) struct Table {
 }
 
 impl Model for Table {
-    ghost use Rattle.std.specs.Prelude.{List, Option, map};
     ghost use Rattle.cnf_types.specs.declared.literal.Lit.{Lit};
+    ghost use Rattle.std.specs.Prelude.{List, Option, map};
 
     ghost Value = { List (Option (List Lit)) };
 

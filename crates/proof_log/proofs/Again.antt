@@ -1,5 +1,6 @@
 -- Each line that is written is read as the step that it was written from.
-use Rattle.std.proofs.Common.{◌≡◌, ℕ, suc, zero, ◌+◌, ◌*◌, ◌/◌, ◌%◌, ◌<◌, ◌^◌, ℤ, pos, negsuc, unsigned_abs, Bool, true, false, cond, ◌&&◌, ◌==◌, nat_lt, List, [], ◌∷◌, ◌++◌, length, map, refl, ap, ap₂, sym, ◌∙◌, subst, arith, All, Some, None, Ok, decimal, append_assoc, append-nil, ⊎_elim}
+use Rattle.std.proofs.Common.{◌≡◌, ℕ, suc, zero, ◌+◌, ◌*◌, ◌/◌, ◌%◌, ◌<◌, ◌^◌, ℤ, pos, negsuc, unsigned_abs, Bool, true, false, cond, ◌&&◌, ◌==◌, nat_lt}
+use Rattle.std.proofs.Common.{List, [], ◌∷◌, ◌++◌, length, map, refl, ap, ap₂, sym, ◌∙◌, subst, arith, All, Some, None, Ok, decimal, append_assoc, append-nil, ⊎_elim}
 use Rattle.std.specs.List.{list_any, list_all}
 use Rattle.std.specs.Fmt.{signed_decimal}
 use Rattle.std.proofs.lemmas.Bool.{cond-true, ne_eqb, eq-eqb, cases_eq, lt-ltb, and_from}
@@ -17,7 +18,8 @@ use Rattle.proof_log.specs.declared.numbers.Sign.TheVariants.{Adds, Drops, Bound
 use Rattle.proof_log.specs.Reading.{reading, log_number, numbers, is_bad, sign, sign_of, number_words, unless_sign, formed, add_of, drop_of, is_positive as positive_number}
 use Rattle.proof_log.specs.Texts.{literal_text, before_spaces, step_text, last_added, steps_text, log_text, IsId, IsLiteral, IsHint, HasLine}
 use Rattle.proof_log.proofs.Forms.{reads_step}
-use Rattle.proof_log.proofs.Printed.{IsPlain, IsWord, plain_word, decimal_plain, minus_plain, number_decimal, number_minus, AreWords, words_spaced, spaced_append, IsInLine, spaced_in_line, line_and_rest, no_return, no_comment, adds_by, Write, written_good, written_numbers, write_append, words_append}
+use Rattle.proof_log.proofs.Printed.{IsPlain, IsWord, plain_word, decimal_plain, minus_plain, number_decimal, number_minus, AreWords, words_spaced, spaced_append}
+use Rattle.proof_log.proofs.Printed.{IsInLine, spaced_in_line, line_and_rest, no_return, no_comment, adds_by, Write, written_good, written_numbers, write_append, words_append}
 
 -- the number of a literal, from its sign and variable
 abbrev signed : Bool → ℕ → ℤ
@@ -54,7 +56,8 @@ of_code n = record { code = n }
 literal_back : (l : Lit) → literal (variable l) (is_positive l) ≡ l
 literal_back l = ⊎_elim
     (λ (e : l.code % 2 ≡ 0). ap (λ b. of_code (cond b (2 * (l.code / 2)) (2 * (l.code / 2) + 1))) (eq-eqb (l.code % 2) 0 e) ∙ ap of_code (let same : 2 * (l.code / 2) ≡ l.code = omega arith in same))
-    (λ (h : l.code % 2 ≡ 0 → ⊥). ap (λ b. of_code (cond b (2 * (l.code / 2)) (2 * (l.code / 2) + 1))) (ne_eqb (l.code % 2) 0 h) ∙ ap of_code (let same : 2 * (l.code / 2) + 1 ≡ l.code = omega arith in same))
+    (λ (h : l.code % 2 ≡ 0 → ⊥). ap (λ b. of_code (cond b (2 * (l.code / 2)) (2 * (l.code / 2) + 1))) (ne_eqb (l.code % 2) 0 h)
+    ∙ ap of_code (let same : 2 * (l.code / 2) + 1 ≡ l.code = omega arith in same))
     (cases_eq (l.code % 2) 0)
 
 hint_number : (h : ℤ) → unsigned_abs h < 2 ^ 63 → log_number (signed_decimal h) ≡ Some h
@@ -87,7 +90,8 @@ lits_back (l ∷ lits) h =
 
 lits_nonzero : (lits : List Lit) → All IsLiteral lits → All (λ z. is_zero z ≡ false) (map number_of lits)
 lits_nonzero [] h = All-nil (λ z. is_zero z ≡ false)
-lits_nonzero (l ∷ lits) h = All-cons (λ z. is_zero z ≡ false) (number_of l) (map number_of lits) (signed_nonzero (is_positive l) (variable l) (All-head IsLiteral l lits h).0) (lits_nonzero lits (All-tail IsLiteral l lits h))
+lits_nonzero (l ∷ lits) h = All-cons (λ z. is_zero z ≡ false) (number_of l) (map number_of lits) (signed_nonzero (is_positive l) (variable l) (All-head IsLiteral l lits h).0)
+    (lits_nonzero lits (All-tail IsLiteral l lits h))
 
 hints_write : (hints : List ℤ) → All IsHint hints → Write (map signed_decimal hints) hints
 hints_write [] h = tt
@@ -119,7 +123,8 @@ ids_positive (id ∷ ids) h = and_from _ _ (lt-ltb 0 id (All-head IsId id ids h)
 
 ids_nonzero : (ids : List ℕ) → All IsId ids → All (λ z. is_zero z ≡ false) (map pos ids)
 ids_nonzero [] h = All-nil (λ z. is_zero z ≡ false)
-ids_nonzero (id ∷ ids) h = All-cons (λ z. is_zero z ≡ false) (pos id) (map pos ids) (ne_eqb id 0 (λ e. let some = (All-head IsId id ids h).0 in omega (arith, some))) (ids_nonzero ids (All-tail IsId id ids h))
+ids_nonzero (id ∷ ids) h = All-cons (λ z. is_zero z ≡ false) (pos id) (map pos ids) (ne_eqb id 0 (λ e. let some = (All-head IsId id ids h).0 in omega (arith, some)))
+    (ids_nonzero ids (All-tail IsId id ids h))
 
 -- a line of words and a zero at its end
 not_nothing : (bytes : List ℕ) → false ≡ (length (bytes ++ 48 ∷ []) == 0)
@@ -132,12 +137,16 @@ letter_is_word b h = (omega arith, All-cons (λ c. 32 < c) b [] h (All-nil (λ c
 zero_is_word : IsWord (48 ∷ [])
 zero_is_word = letter_is_word 48 (omega arith)
 
-reads_line : (w : List ℕ) (ws : List (List ℕ)) (s : Step) → IsPlain w → AreWords ws → list_any is_bad (number_words ((w ∷ ws) ++ (48 ∷ []) ∷ [])) ≡ false → Some s ≡ formed (sign ((w ∷ ws) ++ (48 ∷ []) ∷ [])) (numbers (number_words ((w ∷ ws) ++ (48 ∷ []) ∷ []))) → reading (before_spaces (w ∷ ws) ++ 48 ∷ []) ≡ Ok (Some s)
+reads_line : (w : List ℕ) (ws : List (List ℕ)) (s : Step) → IsPlain w → AreWords ws → list_any is_bad (number_words ((w ∷ ws) ++ (48 ∷ []) ∷ [])) ≡ false →
+    Some s ≡ formed (sign ((w ∷ ws) ++ (48 ∷ []) ∷ [])) (numbers (number_words ((w ∷ ws) ++ (48 ∷ []) ∷ []))) → reading (before_spaces (w ∷ ws) ++ 48 ∷ []) ≡ Ok (Some s)
 reads_line w ws s plain others good form =
     let line = before_spaces (w ∷ ws) ++ 48 ∷ [] in
     let all : words line ≡ (w ∷ ws) ++ (48 ∷ []) ∷ [] = words_spaced (w ∷ ws) (plain_word w plain, others) in
-    let off : false ≡ is_comment line = sym (ap is_comment (append_assoc (w ++ 32 ∷ []) (before_spaces ws) (48 ∷ []) ∙ append_assoc w (32 ∷ []) (before_spaces ws ++ 48 ∷ [])) ∙ no_comment w (32 ∷ (before_spaces ws ++ 48 ∷ [])) plain) in
-    reads_step line line s (sym (no_return (before_spaces (w ∷ ws)))) (not_nothing (before_spaces (w ∷ ws))) off (ap (λ vs. list_any is_bad (number_words vs)) all ∙ good) (form ∙ sym (ap (λ vs. formed (sign vs) (numbers (number_words vs))) all))
+    let off : false ≡ is_comment line =
+    sym (ap is_comment (append_assoc (w ++ 32 ∷ []) (before_spaces ws) (48 ∷ []) ∙ append_assoc w (32 ∷ []) (before_spaces ws ++ 48 ∷ []))
+    ∙ no_comment w (32 ∷ (before_spaces ws ++ 48 ∷ [])) plain) in
+    reads_step line line s (sym (no_return (before_spaces (w ∷ ws)))) (not_nothing (before_spaces (w ∷ ws))) off (ap (λ vs. list_any is_bad (number_words vs)) all ∙ good)
+    (form ∙ sym (ap (λ vs. formed (sign vs) (numbers (number_words vs))) all))
 
 -- the words of a line that adds a clause, but the last zero
 abbrev add_words : ℕ → List Lit → List ℤ → List (List ℕ)
@@ -154,9 +163,11 @@ add_text last id lits hints =
 adds_words : (d second : List ℕ) (rest : List (List ℕ)) → sign_of second ≡ Adds → number_words (d ∷ second ∷ rest) ≡ d ∷ second ∷ rest
 adds_words d second rest e = ap (λ s. d ∷ unless_sign s second rest) e
 
-number_words_add : (d : List ℕ) (lits : List Lit) (rest : List (List ℕ)) → All IsLiteral lits → number_words (d ∷ (map literal_text lits ++ (48 ∷ []) ∷ rest)) ≡ d ∷ (map literal_text lits ++ (48 ∷ []) ∷ rest)
+number_words_add : (d : List ℕ) (lits : List Lit) (rest : List (List ℕ)) → All IsLiteral lits →
+    number_words (d ∷ (map literal_text lits ++ (48 ∷ []) ∷ rest)) ≡ d ∷ (map literal_text lits ++ (48 ∷ []) ∷ rest)
 number_words_add d [] rest h = refl
-number_words_add d (l ∷ lits) rest h = adds_words d (literal_text l) (map literal_text lits ++ (48 ∷ []) ∷ rest) (adds_by (literal_text l) (literal_plain (is_positive l) (variable l) (All-head IsLiteral l lits h).1))
+number_words_add d (l ∷ lits) rest h = adds_words d (literal_text l) (map literal_text lits ++ (48 ∷ []) ∷ rest)
+    (adds_by (literal_text l) (literal_plain (is_positive l) (variable l) (All-head IsLiteral l lits h).1))
 
 sign_add : (d : List ℕ) (lits : List Lit) (rest : List (List ℕ)) → All IsLiteral lits → sign (d ∷ (map literal_text lits ++ (48 ∷ []) ∷ rest)) ≡ Adds
 sign_add d [] rest h = refl
@@ -176,23 +187,31 @@ add_line_is : (id : ℕ) (lits : List Lit) (hints : List ℤ) → (decimal id �
 add_line_is id lits hints = ap (λ r. decimal id ∷ r) (append_assoc (map literal_text lits) ((48 ∷ []) ∷ map signed_decimal hints) ((48 ∷ []) ∷ []))
 
 add_write : (id : ℕ) (lits : List Lit) (hints : List ℤ) → IsId id → All IsLiteral lits → All IsHint hints → Write (add_line id lits hints) (add_numbers id lits hints)
-add_write id lits hints i l h =
-    (number_decimal id i.1, write_append (map literal_text lits) ((48 ∷ []) ∷ (map signed_decimal hints ++ (48 ∷ []) ∷ [])) (map number_of lits) (pos 0 ∷ (hints ++ pos 0 ∷ [])) (lits_write lits l) (zero_number, write_append (map signed_decimal hints) ((48 ∷ []) ∷ []) hints (pos 0 ∷ []) (hints_write hints h) (zero_number, tt)))
+add_write id lits hints i l h = (
+  number_decimal id i.1,
+  write_append (map literal_text lits) ((48 ∷ []) ∷ (map signed_decimal hints ++ (48 ∷ []) ∷ [])) (map number_of lits)
+      (pos 0 ∷ (hints ++ pos 0 ∷ [])) (lits_write lits l) (zero_number, write_append (map signed_decimal hints) ((48 ∷ []) ∷ []) hints (pos 0 ∷ []) (hints_write hints h) (zero_number, tt)),
+)
 
 add_formed : (id : ℕ) (lits : List Lit) (hints : List ℤ) → IsId id → All IsLiteral lits → All IsHint hints → formed Adds (add_numbers id lits hints) ≡ Some (Add id lits hints)
 add_formed id lits hints i l h =
     let first = slice_split_at is_zero (map number_of lits) (pos 0) (hints ++ pos 0 ∷ []) (lits_nonzero lits l) refl in
     let second = slice_split_at is_zero hints (pos 0) [] (hints_nonzero hints h) refl in
-    ap (add_of (pos id)) (first ∙ ap (λ ps. map number_of lits ∷ ps) second) ∙ cond-true (nat_lt 0 id) (Some (Add id (map literal_of (map number_of lits)) hints)) None (lt-ltb 0 id i.0) ∙ ap (λ ls. Some (Add id ls hints)) (lits_back lits l)
+    ap (add_of (pos id)) (first ∙ ap (λ ps. map number_of lits ∷ ps) second) ∙ cond-true (nat_lt 0 id) (Some (Add id (map literal_of (map number_of lits)) hints)) None (lt-ltb 0 id i.0)
+    ∙ ap (λ ls. Some (Add id ls hints)) (lits_back lits l)
 
 add_read : (last id : ℕ) (lits : List Lit) (hints : List ℤ) → IsId id → All IsLiteral lits → All IsHint hints → reading (step_text last (Add id lits hints)) ≡ Ok (Some (Add id lits hints))
 add_read last id lits hints i l h =
     let whole = add_line_is id lits hints in
-    let given : number_words ((decimal id ∷ add_words id lits hints) ++ (48 ∷ []) ∷ []) ≡ add_line id lits hints = ap number_words whole ∙ number_words_add (decimal id) lits (map signed_decimal hints ++ (48 ∷ []) ∷ []) l in
+    let given : number_words ((decimal id ∷ add_words id lits hints) ++ (48 ∷ []) ∷ []) ≡ add_line id lits hints =
+    ap number_words whole ∙ number_words_add (decimal id) lits (map signed_decimal hints ++ (48 ∷ []) ∷ []) l in
     let written = add_write id lits hints i l h in
     let others : AreWords (add_words id lits hints) = words_append (map literal_text lits) ((48 ∷ []) ∷ map signed_decimal hints) (lits_words lits l) (zero_is_word, hints_words hints h) in
-    let form : formed (sign ((decimal id ∷ add_words id lits hints) ++ (48 ∷ []) ∷ [])) (numbers (number_words ((decimal id ∷ add_words id lits hints) ++ (48 ∷ []) ∷ []))) ≡ Some (Add id lits hints) = ap₂ formed (ap sign whole ∙ sign_add (decimal id) lits (map signed_decimal hints ++ (48 ∷ []) ∷ []) l) (ap numbers given ∙ written_numbers (add_line id lits hints) (add_numbers id lits hints) written) ∙ add_formed id lits hints i l h in
-    ap reading (add_text last id lits hints) ∙ reads_line (decimal id) (add_words id lits hints) (Add id lits hints) (decimal_plain id (let fits = i.1 in omega (arith, fits))) others (ap (list_any is_bad) given ∙ written_good (add_line id lits hints) (add_numbers id lits hints) written) (sym form)
+    let form : formed (sign ((decimal id ∷ add_words id lits hints) ++ (48 ∷ []) ∷ [])) (numbers (number_words ((decimal id ∷ add_words id lits hints) ++ (48 ∷ []) ∷ []))) ≡ Some
+    (Add id lits hints) = ap₂ formed (ap sign whole ∙ sign_add (decimal id) lits (map signed_decimal hints ++ (48 ∷ []) ∷ []) l)
+    (ap numbers given ∙ written_numbers (add_line id lits hints) (add_numbers id lits hints) written) ∙ add_formed id lits hints i l h in
+    ap reading (add_text last id lits hints) ∙ reads_line (decimal id) (add_words id lits hints) (Add id lits hints) (decimal_plain id (let fits = i.1 in omega (arith, fits))) others
+    (ap (list_any is_bad) given ∙ written_good (add_line id lits hints) (add_numbers id lits hints) written) (sym form)
 
 -- a line that drops clauses
 abbrev drop_words : ℕ → List ℕ → List (List ℕ)
@@ -219,7 +238,8 @@ drop_read : (last : ℕ) (ids : List ℕ) → last < 2 ^ 63 → All IsId ids →
 drop_read last ids fits h =
     let written = drop_write last ids fits h in
     let form : formed Drops (numbers (drop_words last ids)) ≡ Some (Drop ids) = ap (formed Drops) (written_numbers (drop_words last ids) (drop_numbers last ids) written) ∙ drop_formed last ids h in
-    ap reading (drop_text last ids) ∙ reads_line (decimal last) ((100 ∷ []) ∷ map decimal ids) (Drop ids) (decimal_plain last (omega arith)) (letter_is_word 100 (omega arith), ids_words ids h) (written_good (drop_words last ids) (drop_numbers last ids) written) (sym form)
+    ap reading (drop_text last ids) ∙ reads_line (decimal last) ((100 ∷ []) ∷ map decimal ids) (Drop ids) (decimal_plain last (omega arith))
+    (letter_is_word 100 (omega arith), ids_words ids h) (written_good (drop_words last ids) (drop_numbers last ids) written) (sym form)
 
 -- a line that asserts a bound
 bound_text : (last id price : ℕ) → step_text last (Bound id price) ≡ before_spaces (decimal id ∷ (98 ∷ []) ∷ decimal price ∷ []) ++ 48 ∷ []
@@ -244,8 +264,10 @@ bound_formed id price some small = ap (λ b. cond b (Some (Bound id price)) None
 bound_read : (last id price : ℕ) → IsId id → price < 2 ^ 32 → reading (step_text last (Bound id price)) ≡ Ok (Some (Bound id price))
 bound_read last id price i small =
     let written : Write (bound_words id price) (bound_numbers id price) = (number_decimal id i.1, (number_decimal price (omega arith), (zero_number, tt))) in
-    let form : formed Bounds (numbers (bound_words id price)) ≡ Some (Bound id price) = ap (formed Bounds) (written_numbers (bound_words id price) (bound_numbers id price) written) ∙ bound_formed id price i.0 small in
-    ap reading (bound_text last id price) ∙ reads_line (decimal id) ((98 ∷ []) ∷ decimal price ∷ []) (Bound id price) (decimal_plain id (let fits = i.1 in omega (arith, fits))) (letter_is_word 98 (omega arith), (plain_word (decimal price) (decimal_plain price (omega arith)), tt)) (written_good (bound_words id price) (bound_numbers id price) written) (sym form)
+    let form : formed Bounds (numbers (bound_words id price)) ≡ Some (Bound id price) =
+    ap (formed Bounds) (written_numbers (bound_words id price) (bound_numbers id price) written) ∙ bound_formed id price i.0 small in
+    ap reading (bound_text last id price) ∙ reads_line (decimal id) ((98 ∷ []) ∷ decimal price ∷ []) (Bound id price) (decimal_plain id (let fits = i.1 in omega (arith, fits)))
+    (letter_is_word 98 (omega arith), (plain_word (decimal price) (decimal_plain price (omega arith)), tt)) (written_good (bound_words id price) (bound_numbers id price) written) (sym form)
 
 -- each step's line is read as the step
 pub step_read : (last : ℕ) (s : Step) → last < 2 ^ 63 → HasLine s → reading (step_text last s) ≡ Ok (Some s)
@@ -259,12 +281,21 @@ ends_in_line bytes h = All-append (λ b. 31 < b) bytes (48 ∷ []) h (All-cons (
 pub step_in_line : (last : ℕ) (s : Step) → last < 2 ^ 63 → HasLine s → IsInLine (step_text last s)
 step_in_line last (Add id lits hints) fits h =
     let low = (h.0).1 in
-    subst IsInLine (sym (add_text last id lits hints)) (ends_in_line (before_spaces (decimal id ∷ add_words id lits hints)) (spaced_in_line (decimal id ∷ add_words id lits hints) (plain_word (decimal id) (decimal_plain id (omega (arith, low))), words_append (map literal_text lits) ((48 ∷ []) ∷ map signed_decimal hints) (lits_words lits h.1) (zero_is_word, hints_words hints h.2))))
+    subst IsInLine (sym (add_text last id lits hints))
+    (ends_in_line (before_spaces (decimal id ∷ add_words id lits hints))
+    (spaced_in_line (decimal id ∷ add_words id lits hints) (
+      plain_word (decimal id) (decimal_plain id (omega (arith, low))),
+      words_append (map literal_text lits) ((48 ∷ []) ∷ map signed_decimal hints) (lits_words lits h.1) (zero_is_word, hints_words hints h.2),
+    )))
 step_in_line last (Drop ids) fits h =
-    subst IsInLine (sym (drop_text last ids)) (ends_in_line (before_spaces (decimal last ∷ (100 ∷ []) ∷ map decimal ids)) (spaced_in_line (decimal last ∷ (100 ∷ []) ∷ map decimal ids) (plain_word (decimal last) (decimal_plain last (omega arith)), (letter_is_word 100 (omega arith), ids_words ids h))))
+    subst IsInLine (sym (drop_text last ids)) (ends_in_line (before_spaces (decimal last ∷ (100 ∷ []) ∷ map decimal ids))
+    (spaced_in_line (decimal last ∷ (100 ∷ []) ∷ map decimal ids) (plain_word (decimal last) (decimal_plain last (omega arith)), (letter_is_word 100 (omega arith), ids_words ids h))))
 step_in_line last (Bound id price) fits h =
     let low = (h.0).1 in let small = h.1 in
-    subst IsInLine (sym (bound_text last id price)) (ends_in_line (before_spaces (decimal id ∷ (98 ∷ []) ∷ decimal price ∷ [])) (spaced_in_line (decimal id ∷ (98 ∷ []) ∷ decimal price ∷ []) (plain_word (decimal id) (decimal_plain id (omega (arith, low))), (letter_is_word 98 (omega arith), (plain_word (decimal price) (decimal_plain price (omega (arith, small))), tt)))))
+    subst IsInLine (sym (bound_text last id price))
+    (ends_in_line (before_spaces (decimal id ∷ (98 ∷ []) ∷ decimal price ∷ []))
+    (spaced_in_line (decimal id ∷ (98 ∷ []) ∷ decimal price ∷ [])
+    (plain_word (decimal id) (decimal_plain id (omega (arith, low))), (letter_is_word 98 (omega arith), (plain_word (decimal price) (decimal_plain price (omega (arith, small))), tt)))))
 
 last_fits : (last : ℕ) (s : Step) → last < 2 ^ 63 → HasLine s → last_added last s < 2 ^ 63
 last_fits last (Add id lits hints) fits h = (h.0).1
@@ -275,7 +306,8 @@ steps_read : (last : ℕ) (steps : List Step) → last < 2 ^ 63 → All HasLine 
 steps_read last [] fits h = refl
 steps_read last (s ∷ steps) fits h =
     let here = All-head HasLine s steps h in
-    ap (map reading) (line_and_rest (step_text last s) (steps_text (last_added last s) steps) (step_in_line last s fits here)) ∙ ap₂ (λ r rs. r ∷ rs) (step_read last s fits here) (steps_read (last_added last s) steps (last_fits last s fits here) (All-tail HasLine s steps h))
+    ap (map reading) (line_and_rest (step_text last s) (steps_text (last_added last s) steps) (step_in_line last s fits here))
+    ∙ ap₂ (λ r rs. r ∷ rs) (step_read last s fits here) (steps_read (last_added last s) steps (last_fits last s fits here) (All-tail HasLine s steps h))
 
 pub log_read : (log : Log) → All HasLine log.steps → map reading (lines (log_text log)) ≡ map (λ s. Ok (Some s)) log.steps
 log_read log h = steps_read 0 log.steps (omega arith) h

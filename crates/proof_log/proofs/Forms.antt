@@ -14,10 +14,15 @@ filled [] h = absurd (false≢true h)
 filled (b ∷ bytes) h = refl
 
 -- a line of good numbers in one of the three forms
-pub reads_step : (line text : List ℕ) (s : Step) → text ≡ without_return line → false ≡ (length text == 0) → false ≡ is_comment line → IsFalse (list_any is_bad (number_words (words text))) → Some s ≡ formed (sign (words text)) (numbers (number_words (words text))) → reading line ≡ Ok (Some s)
+pub reads_step : (line text : List ℕ) (s : Step) → text ≡ without_return line → false ≡ (length text == 0) → false ≡ is_comment line →
+    IsFalse (list_any is_bad (number_words (words text))) → Some s ≡ formed (sign (words text)) (numbers (number_words (words text))) → reading line ≡ Ok (Some s)
 unfolding reading
 reads_step line text s text_is some off good form =
     let at : is_filled (without_return line) ≡ true = rw (sym text_is) (filled text some) in
     let fine : list_any is_bad (number_words (line_words line)) ≡ false = rw (sym text_is) good in
     let step : formed (sign (line_words line)) (numbers (number_words (line_words line))) ≡ Some s = rw (sym text_is) (sym form) in
-    ap (λ b. cond (not b || is_comment line) (Ok None) (cond (list_any is_bad (number_words (line_words line))) (Err BadNumber) (ok_or_bad_line (formed (sign (line_words line)) (numbers (number_words (line_words line))))))) at ∙ ap (λ b. cond b (Ok None) (cond (list_any is_bad (number_words (line_words line))) (Err BadNumber) (ok_or_bad_line (formed (sign (line_words line)) (numbers (number_words (line_words line))))))) (sym off) ∙ ap (λ b. cond b (Err BadNumber) (ok_or_bad_line (formed (sign (line_words line)) (numbers (number_words (line_words line)))))) fine ∙ ap ok_or_bad_line step
+    ap (λ b. cond (not b || is_comment line) (Ok None)
+    (cond (list_any is_bad (number_words (line_words line))) (Err BadNumber) (ok_or_bad_line (formed (sign (line_words line)) (numbers (number_words (line_words line))))))) at
+    ∙ ap (λ b. cond b (Ok None)
+    (cond (list_any is_bad (number_words (line_words line))) (Err BadNumber) (ok_or_bad_line (formed (sign (line_words line)) (numbers (number_words (line_words line)))))))
+    (sym off) ∙ ap (λ b. cond b (Err BadNumber) (ok_or_bad_line (formed (sign (line_words line)) (numbers (number_words (line_words line)))))) fine ∙ ap ok_or_bad_line step

@@ -1,5 +1,6 @@
 -- The first word of a line, and the number that it writes.
-use Rattle.std.proofs.Common.{◌≡◌, filter, ℕ, ◌+◌, ◌-◌, ◌<◌, ◌≤◌, ◌^◌, ℤ, pos, Bool, true, false, List, [], ◌∷◌, ◌++◌, length, take, drop, get_or, refl, ap, sym, subst, ◌∙◌, arith, All, Some, None, cond, option_and_then, nat_le, append-nil, take-append-drop, length-drop, length-take-le, ⊎_elim}
+use Rattle.std.proofs.Common.{◌≡◌, filter, ℕ, ◌+◌, ◌-◌, ◌<◌, ◌≤◌, ◌^◌, ℤ, pos, Bool, true, false, List, [], ◌∷◌, ◌++◌, length, take}
+use Rattle.std.proofs.Common.{drop, get_or, refl, ap, sym, subst, ◌∙◌, arith, All, Some, None, cond, option_and_then, nat_le, append-nil, take-append-drop, length-drop, length-take-le, ⊎_elim}
 use Rattle.std.specs.Str.{all_ascii_digits}
 use Rattle.std.specs.Char.{is_ascii_digit}
 use Rattle.std.proofs.lemmas.Bool.{and_from, and_parts, cond-true, le-leb}
@@ -68,7 +69,8 @@ no_longer behind rest ends = ⊎_elim
     (λ (e : (behind ≡ []) × (rest ≡ [])). omega (arith, ap length e.1))
     ends
 
-pub natural_first : (line rest : List ℕ) (count value : ℕ) → 0 < count → count ≤ length line → all_ascii_digits (take count line) ≡ true → value ≡ value_after 0 (take count line) → value < 10 ^ 18 → EndsWord (drop count line) rest → IsFirstNumber line (Some (pos value)) rest
+pub natural_first : (line rest : List ℕ) (count value : ℕ) → 0 < count → count ≤ length line → all_ascii_digits (take count line) ≡ true →
+    value ≡ value_after 0 (take count line) → value < 10 ^ 18 → EndsWord (drop count line) rest → IsFirstNumber line (Some (pos value)) rest
 natural_first line rest count value some within digits value_is small ends =
     let size : length (take count line) ≡ count = length-take-le count line within in
     let some_bytes : 0 < length (take count line) = omega arith in
@@ -80,7 +82,8 @@ natural_first line rest count value some within digits value_is small ends =
       shorter = omega (arith, length-drop count line);
     }
 
-pub negative_first : (bytes rest : List ℕ) (count value : ℕ) (z : ℤ) → 0 < count → count ≤ length bytes → all_ascii_digits (take count bytes) ≡ true → value ≡ value_after 0 (take count bytes) → value < 10 ^ 18 → Some z ≡ minus value → EndsWord (drop count bytes) rest → IsFirstNumber (45 ∷ bytes) (Some z) rest
+pub negative_first : (bytes rest : List ℕ) (count value : ℕ) (z : ℤ) → 0 < count → count ≤ length bytes → all_ascii_digits (take count bytes) ≡ true →
+    value ≡ value_after 0 (take count bytes) → value < 10 ^ 18 → Some z ≡ minus value → EndsWord (drop count bytes) rest → IsFirstNumber (45 ∷ bytes) (Some z) rest
 negative_first bytes rest count value z some within digits value_is small number ends =
     let size : length (take count bytes) ≡ count = length-take-le count bytes within in
     let some_bytes : 0 < length (take count bytes) = omega arith in
@@ -93,8 +96,11 @@ negative_first bytes rest count value z some within digits value_is small number
       shorter = omega (arith, length-drop count bytes);
     }
 
-pub signed_first : (line bytes rest : List ℕ) (count value : ℕ) (z : ℤ) (negative : Bool) → (negative ≡ true → line ≡ 45 ∷ bytes) → (negative ≡ false → line ≡ bytes) → 0 < count → count ≤ length bytes → all_ascii_digits (take count bytes) ≡ true → value ≡ value_after 0 (take count bytes) → value < 10 ^ 18 → Some z ≡ cond negative (minus value) (Some (pos value)) → EndsWord (drop count bytes) rest → IsFirstNumber line (Some z) rest
+pub signed_first : (line bytes rest : List ℕ) (count value : ℕ) (z : ℤ) (negative : Bool) → (negative ≡ true → line ≡ 45 ∷ bytes) →
+    (negative ≡ false → line ≡ bytes) → 0 < count → count ≤ length bytes → all_ascii_digits (take count bytes) ≡ true →
+    value ≡ value_after 0 (take count bytes) → value < 10 ^ 18 → Some z ≡ cond negative (minus value) (Some (pos value)) → EndsWord (drop count bytes) rest → IsFirstNumber line (Some z) rest
 signed_first line bytes rest count value z true minus_first none some within digits value_is small number ends =
     subst (λ l. IsFirstNumber l (Some z) rest) (sym (minus_first refl)) (negative_first bytes rest count value z some within digits value_is small number ends)
 signed_first line bytes rest count value z false minus_first none some within digits value_is small number ends =
-    subst (λ o. IsFirstNumber line o rest) (sym number) (subst (λ l. IsFirstNumber l (Some (pos value)) rest) (sym (none refl)) (natural_first bytes rest count value some within digits value_is small ends))
+    subst (λ o. IsFirstNumber line o rest) (sym number) (subst (λ l. IsFirstNumber l (Some (pos value)) rest) (sym (none refl))
+    (natural_first bytes rest count value some within digits value_is small ends))

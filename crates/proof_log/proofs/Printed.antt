@@ -1,5 +1,6 @@
 -- What is written is read again: words, numbers and lines.
-use Rattle.std.proofs.Common.{◌≡◌, ℕ, suc, ◌-◌, ◌<◌, ◌≤◌, ◌^◌, ℤ, pos, negsuc, true, false, ◌||◌, ◌==◌, nat_le, List, [], ◌∷◌, ◌++◌, length, take, get_or, filter, refl, ap, ap₂, sym, ◌∙◌, arith, rules, All, Some, None, decimal, append_assoc, option_map, option_and_then, is_none, length-append}
+use Rattle.std.proofs.Common.{◌≡◌, ℕ, suc, ◌-◌, ◌<◌, ◌≤◌, ◌^◌, ℤ, pos, negsuc, true, false, ◌||◌, ◌==◌, nat_le, List, [], ◌∷◌, ◌++◌}
+use Rattle.std.proofs.Common.{length, take, get_or, filter, refl, ap, ap₂, sym, ◌∙◌, arith, rules, All, Some, None, decimal, append_assoc, option_map, option_and_then, is_none, length-append}
 use Rattle.std.specs.List.{list_any, slice_split, onto_first, cons_option}
 use Rattle.std.specs.Str.{all_ascii_digits}
 use Rattle.std.proofs.lemmas.Str.Parse.{IsNumeralModel, numerals_by_fold, tells_all_ascii_digits, FoldsDigits, digit_at}
@@ -108,7 +109,8 @@ IsInLine bytes = All (λ b. 31 < b) bytes
 pub spaced_in_line : (ws : List (List ℕ)) → AreWords ws → IsInLine (before_spaces ws)
 spaced_in_line [] h = All-nil (λ b. 31 < b)
 spaced_in_line (w ∷ ws) h =
-    All-append (λ b. 31 < b) (w ++ 32 ∷ []) (before_spaces ws) (All-append (λ b. 31 < b) w (32 ∷ []) (All-weaker (λ b. 32 < b) (λ b. 31 < b) (λ b k. omega (arith, k)) w (h.0).1) (All-cons (λ b. 31 < b) 32 [] (omega arith) (All-nil (λ b. 31 < b)))) (spaced_in_line ws h.1)
+    All-append (λ b. 31 < b) (w ++ 32 ∷ []) (before_spaces ws) (All-append (λ b. 31 < b) w (32 ∷ [])
+    (All-weaker (λ b. 32 < b) (λ b. 31 < b) (λ b k. omega (arith, k)) w (h.0).1) (All-cons (λ b. 31 < b) 32 [] (omega arith) (All-nil (λ b. 31 < b)))) (spaced_in_line ws h.1)
 
 pub line_and_rest : (line rest : List ℕ) → IsInLine line → lines (line ++ 10 ∷ rest) ≡ line ∷ lines rest
 line_and_rest [] rest h = refl

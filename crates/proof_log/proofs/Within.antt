@@ -1,5 +1,6 @@
 -- The numbers of a line are below 2 ^ 63.
-use Rattle.std.proofs.Common.{◌≡◌, ℕ, suc, zero, ◌<◌, ◌≤◌, ◌-◌, ◌^◌, ℤ, pos, unsigned_abs, Bool, true, false, List, [], ◌∷◌, refl, sym, arith, All, Option, Some, None, ◌==◌, cond, option_map, option_and_then, ◌&&◌, nat_le}
+use Rattle.std.proofs.Common.{◌≡◌, ℕ, suc, zero, ◌<◌, ◌≤◌, ◌-◌, ◌^◌, ℤ, pos, unsigned_abs, Bool, true, false, List}
+use Rattle.std.proofs.Common.{[], ◌∷◌, refl, sym, arith, All, Option, Some, None, ◌==◌, cond, option_map, option_and_then, ◌&&◌, nat_le}
 use Rattle.std.specs.List.{cons_option}
 use Rattle.std.specs.Str.{all_ascii_digits}
 use Rattle.std.proofs.lemmas.Bool.{and_parts, leb-true}
@@ -24,7 +25,8 @@ pos_within : (limit : ℕ) (o : Option ℕ) (z : ℤ) → ((n : ℕ) → o ≡ S
 pos_within limit None z h e = absurd (none-some z e)
 pos_within limit (Some n) z h e = rw (sym (same_Some _ _ e)) (h n refl)
 
-signed_within : (limit : ℕ) (b : ℕ) (bytes : List ℕ) (z : ℤ) (test : Bool) → cond test (option_and_then minus (natural limit bytes)) (option_map pos (natural limit (b ∷ bytes))) ≡ Some z → unsigned_abs z ≤ limit
+signed_within : (limit : ℕ) (b : ℕ) (bytes : List ℕ) (z : ℤ) (test : Bool) →
+    cond test (option_and_then minus (natural limit bytes)) (option_map pos (natural limit (b ∷ bytes))) ≡ Some z → unsigned_abs z ≤ limit
 signed_within limit b bytes z true e =
     option_and_then_some minus (natural limit bytes) z e (λ n is then_is. minus_within limit n z (natural_within limit bytes n is) then_is)
 signed_within limit b bytes z false e = pos_within limit (natural limit (b ∷ bytes)) z (natural_within limit (b ∷ bytes)) e

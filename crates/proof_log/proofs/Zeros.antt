@@ -1,5 +1,6 @@
 -- Numbers cut at their zeros.
-use Rattle.std.proofs.Common.{◌≡◌, ℕ, ◌+◌, ◌-◌, ◌<◌, ◌≤◌, ℤ, pos, Bool, true, false, List, [], ◌∷◌, ◌++◌, length, take, drop, get_or, get_or-take, length-take, take-append-drop, refl, ap, sym, ◌∙◌, arith, All, cond, None, true≢false}
+use Rattle.std.proofs.Common.{◌≡◌, ℕ, ◌+◌, ◌-◌, ◌<◌, ◌≤◌, ℤ, pos, Bool, true, false, List, [], ◌∷◌, ◌++◌}
+use Rattle.std.proofs.Common.{length, take, drop, get_or, get_or-take, length-take, take-append-drop, refl, ap, sym, ◌∙◌, arith, All, cond, None, true≢false}
 use Rattle.std.specs.List.{slice_split, onto_first}
 use Rattle.std.proofs.lemmas.List.{drop_more, take_rest}
 use Rattle.std.proofs.lemmas.List.Splits.{slice_split_at, slice_split_none}
@@ -12,10 +13,12 @@ pub none_before : (zs : List ℤ) (i : ℕ) → i ≤ length zs → ((k : ℕ) �
 none_before zs i within free =
     All-from_get_or (λ z. is_zero z ≡ false) (take i zs) (pos 0) (λ k h. let l : k < i = omega (arith, length-take i zs) in ap is_zero (get_or-take i zs k (pos 0) l) ∙ free k l)
 
-pub cut_at : (zs : List ℤ) (i : ℕ) → i < length zs → ((k : ℕ) → k < i → is_zero (get_or zs k (pos 0)) ≡ false) → is_zero (get_or zs i (pos 0)) ≡ true → slice_split is_zero zs ≡ take i zs ∷ slice_split is_zero (take (length zs - (i + 1)) (drop (i + 1) zs))
+pub cut_at : (zs : List ℤ) (i : ℕ) → i < length zs → ((k : ℕ) → k < i → is_zero (get_or zs k (pos 0)) ≡ false) → is_zero (get_or zs i (pos 0)) ≡ true →
+    slice_split is_zero zs ≡ take i zs ∷ slice_split is_zero (take (length zs - (i + 1)) (drop (i + 1) zs))
 cut_at zs i within free zero_here =
     let parts : zs ≡ take i zs ++ get_or zs i (pos 0) ∷ drop (i + 1) zs = sym (take-append-drop i zs) ∙ ap (λ r. take i zs ++ r) (drop_more zs i (pos 0) within) in
-    ap (slice_split is_zero) parts ∙ slice_split_at is_zero (take i zs) (get_or zs i (pos 0)) (drop (i + 1) zs) (none_before zs i (omega arith) free) zero_here ∙ ap (λ r. take i zs ∷ slice_split is_zero r) (sym (take_rest zs (i + 1)))
+    ap (slice_split is_zero) parts ∙ slice_split_at is_zero (take i zs) (get_or zs i (pos 0)) (drop (i + 1) zs) (none_before zs i (omega arith) free) zero_here
+    ∙ ap (λ r. take i zs ∷ slice_split is_zero r) (sym (take_rest zs (i + 1)))
 
 pub uncut : (zs : List ℤ) → ((k : ℕ) → k < length zs → is_zero (get_or zs k (pos 0)) ≡ false) → slice_split is_zero zs ≡ zs ∷ []
 uncut zs free = slice_split_none is_zero zs (All-from_get_or (λ z. is_zero z ≡ false) zs (pos 0) free)
@@ -55,7 +58,8 @@ no_add id lits hints ([] ∷ []) h = absurd (true≢false h)
 no_add id lits hints ([] ∷ p ∷ ps) h = refl
 no_add id lits hints ((z ∷ zs) ∷ ps) h = refl
 
-pub no_add_at : (id : ℤ) (zs lits hints rest after : List ℤ) → slice_split is_zero zs ≡ lits ∷ slice_split is_zero rest → slice_split is_zero rest ≡ hints ∷ slice_split is_zero after → (after ≡ [] → ⊥) → add_of id (slice_split is_zero zs) ≡ None
+pub no_add_at : (id : ℤ) (zs lits hints rest after : List ℤ) → slice_split is_zero zs ≡ lits ∷ slice_split is_zero rest →
+    slice_split is_zero rest ≡ hints ∷ slice_split is_zero after → (after ≡ [] → ⊥) → add_of id (slice_split is_zero zs) ≡ None
 no_add_at id zs lits hints rest after first second filled =
     ap (add_of id) (first ∙ ap (λ ps. lits ∷ ps) second) ∙ no_add id lits hints (slice_split is_zero after) (not_empty after filled)
 

@@ -1,10 +1,9 @@
 //! The step that the numbers of a line write.
-ghost use Rattle.std.specs.Prelude.{◌≡◌, ◌<◌, ◌≤◌, ◌^◌, ◌-◌, ◌++◌, [], ◌∷◌, ℕ, ℤ, None, length};
-ghost use Rattle.std.specs.Prelude.{map, take, false, All, IsTrue, IfOk, OnOk, IsErrOf, IfNone};
-ghost use Rattle.std.specs.Prelude.{IfSome, MatchOption, Some, unsigned_abs};
-ghost use Rattle.std.specs.List.{list_all, slice_split};
 ghost use Rattle.cnf_types.specs.Dimacs.{is_zero, literal_of};
 ghost use Rattle.proof_log.specs.Reading.{add_of, drop_of, bound_of, is_positive, formed};
+ghost use Rattle.std.specs.List.{list_all, slice_split};
+ghost use Rattle.std.specs.Prelude.{◌≡◌, ◌<◌, ◌^◌, ◌-◌, [], ◌∷◌, ℤ, None, length, map, take, false};
+ghost use Rattle.std.specs.Prelude.{All, IfOk, IfNone, IfSome, Some, unsigned_abs};
 
 use crate::numbers::Sign;
 use crate::steps::Step;

@@ -1,15 +1,14 @@
 //! The numbers of a line of a proof log.
+ghost use Rattle.arc_base.specs.WordNumbers.{minus, value_after};
+ghost use Rattle.arc_base.specs.Words.{words};
+ghost use Rattle.proof_log.specs.Fronts.{EndsWord, IsFirstNumber};
+ghost use Rattle.proof_log.specs.Reading.{is_bad, log_number, number_words, numbers, sign, sign_of};
+ghost use Rattle.std.specs.List.{list_any};
 ghost use Rattle.std.specs.Prelude.{◌≡◌, ◌<◌, ◌≤◌, ◌^◌, ◌-◌, ◌||◌, [], ◌∷◌, ℕ, length, ◌++◌, Some};
 ghost use Rattle.std.specs.Prelude.{IsTrue, IsFalse, IfOk, OnOk, IsErrOf, IfNone, IfSome, true};
 ghost use Rattle.std.specs.Prelude.{take};
 ghost use Rattle.std.specs.Prelude.{drop, is_none, option_to_list, pos, if◌then◌else◌, List};
-ghost use Rattle.std.specs.List.{list_any, slice_split};
 ghost use Rattle.std.specs.Str.{all_ascii_digits};
-ghost use Rattle.arc_base.specs.Words.{words};
-ghost use Rattle.cnf_types.specs.Dimacs.{is_zero};
-ghost use Rattle.arc_base.specs.WordNumbers.{minus, value_after};
-ghost use Rattle.proof_log.specs.Reading.{is_bad, log_number, number_words, numbers, sign, sign_of};
-ghost use Rattle.proof_log.specs.Fronts.{EndsWord, IsFirstNumber};
 
 use crate::reading::LineKind;
 use arc_base::{next_word, number};

@@ -1,9 +1,9 @@
 //! The text of a proof log.
-ghost use Rattle.std.specs.Prelude.{◌≡◌, ◌<◌, ◌^◌, ◌++◌, ◌∷◌, [], All, IfOk, OnOk, string_bytes};
-ghost use Rattle.std.specs.Prelude.{map, decimal, codes};
-ghost use Rattle.std.specs.Fmt.{signed_decimal};
-ghost use Rattle.proof_log.specs.Texts.{before_spaces, HasLine, literal_text, log_text, step_text};
+ghost use Rattle.proof_log.specs.Texts.{before_spaces, literal_text, log_text, step_text};
 ghost use Rattle.proof_log.specs.Texts.{last_added};
+ghost use Rattle.std.specs.Fmt.{signed_decimal};
+ghost use Rattle.std.specs.Prelude.{◌≡◌, ◌<◌, ◌++◌, ◌∷◌, [], IfOk, OnOk, string_bytes, map};
+ghost use Rattle.std.specs.Prelude.{decimal, codes};
 
 use crate::steps::{Log, Step};
 use arc_base::Memory;

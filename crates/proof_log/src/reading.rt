@@ -1,7 +1,7 @@
 //! Steps from the lines of a proof log.
+ghost use Rattle.proof_log.specs.Reading.{formed, ok_or_bad_line, reading, IsFaultOf};
 ghost use Rattle.std.specs.Prelude.{◌≡◌, ◌<◌, ◌^◌, All, IfOk, IfErr, IfSome, IsErrOf, IsNone, None};
 ghost use Rattle.std.specs.Prelude.{Ok, OnOk, unsigned_abs};
-ghost use Rattle.proof_log.specs.Reading.{formed, ok_or_bad_line, reading, IsFaultOf};
 
 use crate::interpreting::interpret;
 use crate::numbers::{Sign, read_numbers};

@@ -1,4 +1,4 @@
--- What a command that judges one more policy answers where it is stopped.
+-- The answer of a command that judges one more policy, if it is stopped.
 use Rattle.std.proofs.Common.{◌≡◌, ℕ, List, [], refl, subst}
 use Rattle.std.specs.Prelude.{Option, Some, None, IfSome, Ok, Err}
 use Rattle.arc_outside.specs.Files.{Files}
@@ -26,7 +26,8 @@ module _ (Refusal : Files → FileRefusal → Type 0) (Answer : Files → Done �
   abbrev pub Read : Option Files → Document → Network → Type 0
   Read held doc net = IfSome held (λ files. HoldsInput Judging [] document files doc net)
 
-  pub ends_stopped : (held : Option Files) (stop : Stop) (policy : Policy) (doc : Document) (net : Network) → ((files : Files) (r : FileRefusal) → RefusesEnds document policy files r → Refusal files r) →
+  pub ends_stopped : (held : Option Files) (stop : Stop) (policy : Policy) (doc : Document) (net : Network) →
+      ((files : Files) (r : FileRefusal) → RefusesEnds document policy files r → Refusal files r) →
       Read held doc net → AddsPolicy document net doc.policies policy (Err stop) → Answers IsJudging Refusal Answer held (Err stop)
   ends_stopped None (stops.Refused r) policy doc net is told adds = tt
   ends_stopped (Some files) (stops.Refused r) policy doc net is told adds = is files r (record { doc = doc; net = net; input = told; ends = adds.0; told = adds.1 })

@@ -47,8 +47,9 @@ module _ (net : Network) (valid : IsValid net) where
   one_list (name ∷ names) (x ∷ xs) (y ∷ ys) one other =
       ap (λ (z : Router). z ∷ xs) (one_router name x y one.0 other.0) ∙ ap (λ (zs : List Router). y ∷ zs) (one_list names xs ys one.1 other.1)
 
--- where each name is a router's, none is unknown
-named_at : (net : Network) (names : List (List ℕ)) (wanted : List Router) (k : ℕ) (name : List ℕ) → AreNamed net names wanted → slice_get names k ≡ Some name → (router : Router) × IsNamed net name router
+-- if each name is that of a router, none is unknown
+named_at : (net : Network) (names : List (List ℕ)) (wanted : List Router) (k : ℕ) (name : List ℕ) → AreNamed net names wanted → slice_get names k ≡ Some name →
+    (router : Router) × IsNamed net name router
 named_at net [] wanted k name named at = absurd (cc)
 named_at net (first ∷ names) [] k name named at = absurd named
 named_at net (first ∷ names) (x ∷ xs) zero name named at =
@@ -60,7 +61,7 @@ known_or_unknown net names wanted place named first =
     let found = named_at net names wanted place first.name named first.at_place in
     first.unknown found.0 found.1
 
--- one name at most is the first that no router has
+-- at most one name is the first that no router has
 not_later : (net : Network) (names : List (List ℕ)) (place other : ℕ) → IsFirstUnknown net names place → IsFirstUnknown net names other → place < other → ⊥
 not_later net names place other first second low =
     let found = second.before place first.name low first.at_place in
@@ -76,7 +77,7 @@ one_unknown net names place other first second =
       ]
     ]
 
--- a name that none of all routers has is unknown
+-- a name that no router has is unknown
 pub unknown_if : (net : Network) (name : List ℕ) (n : ℕ) → length net.routers ≤ n → ((k : ℕ) → k < n → ¬ IsNamed net name (record { 0 = k })) → NamesNoRouter net name
 unknown_if net name n all none router named =
     elim (cases_lt router.0 n) [
@@ -86,7 +87,7 @@ unknown_if net name n all none router named =
           absurd (omega (arith, slice_get_within net.routers router.0 row.0 row.1, past, all))
     ]
 
--- the names whose routers are found, and one more
+-- the names whose routers are found, with one more
 pub known_more : (net : Network) (names : List (List ℕ)) (place : ℕ) (router : Router) → IfSome (slice_get names place) (λ name. IsNamed net name router) →
     ((k : ℕ) (name : List ℕ) → k < place → slice_get names k ≡ Some name → (r : Router) × IsNamed net name r) →
     (k : ℕ) (name : List ℕ) → k < place + 1 → slice_get names k ≡ Some name → (r : Router) × IsNamed net name r

@@ -1,4 +1,4 @@
--- What `nodes` answers.
+-- The answers of `nodes`.
 use Rattle.std.proofs.Common.{◌≡◌, ◌≤◌, List, [], subst}
 use Rattle.std.specs.Prelude.{Option, Some, None, IfSome, Ok}
 use Rattle.arc_outside.specs.Files.{Files}

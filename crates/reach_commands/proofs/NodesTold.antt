@@ -1,4 +1,4 @@
--- What the status of `nodes` tells.
+-- What the status of `nodes` says.
 use Rattle.std.proofs.Common.{◌≡◌, ◌⊎◌, inl, inr, Bool, true, false, [], refl, sym, ◌∙◌, ap, arith}
 use Rattle.std.specs.Prelude.{if◌then◌else◌}
 use Rattle.std.proofs.lemmas.Bool.{false≢true}
@@ -7,7 +7,7 @@ use Rattle.net_model.specs.declared.policies.Document.{Document}
 use Rattle.net_model.specs.declared.rows.Network.{Network}
 use Rattle.net_rules.specs.Addressing.{HasEndpoints}
 use Rattle.arc_nodecut.specs.RouterFailures.{MeetsPast}
-use Rattle.arc_nodecut.specs.NodeWitnesses.{is_yes}
+use Rattle.arc_nodecut.specs.NodeWitnesses.{is_node_yes}
 use Rattle.arc_nodecut.proofs.NodeVerdicts.{right_verdicts_decide}
 use Rattle.command_words.specs.declared.commands.NodesWords.{NodesWords}
 use Rattle.run_files.specs.declared.limits.Limits.TheVariants.{Judging}
@@ -51,7 +51,7 @@ module _ (words : NodesWords) (files : Files) where
     | inr many ↦ classes_none words.document (nodes_policy words) files doc net input classes r many
   ]
 
-  told_as : (d : Done) (done : IsNodesAnswer words files d) (b : Bool) → is_yes done.verdict ≡ b → TellsNodes words d.status files
+  told_as : (d : Done) (done : IsNodesAnswer words files d) (b : Bool) → is_node_yes done.verdict ≡ b → TellsNodes words d.status files
   told_as d done true is =
       let status : d.status ≡ 0 = done.status ∙ ap (λ (y : Bool). if y then 0 else 1) is in
       let says : NodesSayYes words files = record {
@@ -86,7 +86,7 @@ module _ (words : NodesWords) (files : Files) where
       }
 
   pub told_done : (d : Done) → IsNodesAnswer words files d → TellsNodes words d.status files
-  told_done d done = told_as d done (is_yes done.verdict) refl
+  told_done d done = told_as d done (is_node_yes done.verdict) refl
 
   pub told_refused : (r : FileRefusal) → IsNodesRefusal words files r → TellsNodes words 5 files
   told_refused r refused = record {

@@ -1,4 +1,4 @@
--- What a command that judges one more policy refuses first, up to the policy's prefixes and of all classes.
+-- The first refusal of a command that judges one more policy: of the policy's prefixes or before, and of the number of classes.
 use Rattle.std.proofs.Common.{◌≡◌, ◌⊎◌, inl, inr, ℕ, List, [], sym, ap, ◌∙◌}
 use Rattle.arc_base.specs.declared.refusal.Kind.TheVariants.{Limit}
 use Rattle.arc_base.specs.declared.refusal.LimitKind.TheVariants.{Classes}
@@ -36,13 +36,15 @@ module _ (document : List ℕ) (policy : Policy) (files : Files) where
   early_once r s (inr u) (inl v) = absurd (known.not_both u.doc u.net s u.input v)
   early_once r s (inr u) (inr v) = u.told ∙ sym v.told
 
-  -- and one that counts the classes
-  pub classes_none : (doc : Document) (net : Network) → HoldsInput Judging [] document files doc net → PoliciesHaveFewClasses net (policies_with doc policy) → (r : FileRefusal) → RefusesClassesWith document policy files r → ⊥
+  -- a network with few classes is not refused for them
+  pub classes_none : (doc : Document) (net : Network) → HoldsInput Judging [] document files doc net → PoliciesHaveFewClasses net (policies_with doc policy) →
+      (r : FileRefusal) → RefusesClassesWith document policy files r → ⊥
   classes_none doc net input few r u =
       few_or_many u.net (policies_with u.doc policy) u.count (one_input document files doc u.doc net u.net input u.input (λ d n. PoliciesHaveFewClasses n (policies_with d policy)) few) u.many
 
   pub classes_once : (r s : FileRefusal) → RefusesClassesWith document policy files r → RefusesClassesWith document policy files s → r ≡ s
   classes_once r s u v =
       let count : u.count ≡ v.count =
-      one_count v.net (policies_with v.doc policy) u.count v.count (one_input document files u.doc v.doc u.net v.net u.input v.input (λ d n. HasManyClasses n (policies_with d policy) u.count) u.many) v.many in
+      one_count v.net (policies_with v.doc policy) u.count v.count
+      (one_input document files u.doc v.doc u.net v.net u.input v.input (λ d n. HasManyClasses n (policies_with d policy) u.count) u.many) v.many in
       u.told ∙ ap (λ (n : ℕ). refusal_of document 0 (Limit Classes n)) count ∙ sym v.told

@@ -1,4 +1,4 @@
--- What `prefers` answers.
+-- The answers of `prefers`.
 use Rattle.std.proofs.Common.{◌≡◌, ℕ, ◌≤◌, inl, inr, List, [], subst}
 use Rattle.std.specs.Prelude.{Option, Some, None, IfSome, Ok, Err}
 use Rattle.arc_base.specs.declared.place.Router.{Router}
@@ -37,7 +37,8 @@ routers_stopped (Some files) words doc net judged (stops.Refused r) told adds fi
 routers_stopped held words doc net judged stops.Memory told adds finds = tt
 routers_stopped held words doc net judged stops.Failed told adds finds = tt
 
-pub answered : (held : Option Files) (words : PrefersWords) (doc : Document) (net : Network) (judged : List Policy) (wanted : List Router) (answer : Preferred) (done : Done) → Read held words doc net →
+pub answered : (held : Option Files) (words : PrefersWords) (doc : Document) (net : Network) (judged : List Policy) (wanted : List Router) (answer : Preferred) (done : Done) →
+    Read held words doc net →
     IsValid net → AddsPolicy words.document net doc.policies (prefers_policy words) (Ok judged) → AreNamed net words.routers wanted → PoliciesHaveFewClasses net judged →
     IsRightPreferred net (prefers_policy words) wanted answer → IfSome answer.fault (IsOfFirstClass net judged (prefers_policy words) wanted) →
     done.text ≡ prefers_text net answer → done.writes ≡ [] → done.status ≡ prefers_status answer.fault → done.status ≤ 1 →

@@ -1,4 +1,4 @@
--- What the status of `prefers` tells.
+-- What the status of `prefers` says.
 use Rattle.std.proofs.Common.{◌≡◌, ℕ, ◌+◌, ◌⊎◌, inl, inr, List, [], refl, sym, ◌∙◌, ap, subst, arith}
 use Rattle.std.specs.Prelude.{Option, Some, None, is_some}
 use Rattle.std.proofs.lemmas.Bool.{false≢true}
@@ -21,13 +21,14 @@ use Rattle.run_files.specs.Refusals.{refusal_of}
 use Rattle.run_inputs.specs.Counts.{PoliciesHaveFewClasses}
 use Rattle.run_inputs.specs.Inputs.{HoldsInput}
 use Rattle.reach_commands.specs.Added.{policies_with}
-use Rattle.reach_commands.specs.PreferRuns.{prefers_policy, prefers_status, AreNamed, IsFirstUnknown, RefusesRouter, RefusesPreferClasses, IsPrefersRefusal, IsPrefersAnswer, PrefersSaysYes, PrefersSaysNo, TellsPrefers}
+use Rattle.reach_commands.specs.PreferRuns.{prefers_policy, prefers_status, AreNamed, IsFirstUnknown, RefusesRouter}
+use Rattle.reach_commands.specs.PreferRuns.{RefusesPreferClasses, IsPrefersRefusal, IsPrefersAnswer, PrefersSaysYes, PrefersSaysNo, TellsPrefers}
 use Rattle.reach_commands.proofs.OneInput.{one_input}
 use Rattle.reach_commands.proofs.OneRefusal.{Early, early_none, early_once, classes_none, classes_once}
 use Rattle.reach_commands.proofs.NamedRouters.{one_list, known_or_unknown, one_unknown}
 
 module _ (words : PrefersWords) (files : Files) where
-  -- the list that is preferred is the one of the names
+  -- the list that is preferred is that of the names
   yes_or_no : (yes' : PrefersSaysYes words files) → (no' : PrefersSaysNo words files) → IsValid no'.net → ⊥
   yes_or_no yes' no' valid =
       let named : AreNamed no'.net words.routers yes'.wanted =
@@ -36,16 +37,18 @@ module _ (words : PrefersWords) (files : Files) where
       one_input words.document files yes'.doc no'.doc yes'.net no'.net yes'.input no'.input (λ d n. Prefers n (prefers_policy words) yes'.wanted) yes'.prefers in
       no'.prefers_not (subst (λ (ws : List Router). Prefers no'.net (prefers_policy words) ws) (one_list no'.net valid words.routers yes'.wanted no'.wanted named no'.named) prefers)
 
-  -- the refusal is an early one, or that of a name, or that of the classes
+  -- the refusal is an early one, that of a name, or that of the classes
   stage : (r : FileRefusal) → IsPrefersRefusal words files r → Early words.document (prefers_policy words) files r ⊎ (RefusesRouter words files r ⊎ RefusesPreferClasses words files r)
   stage r (inl u) = inl (inl u)
   stage r (inr (inl u)) = inl (inr u)
   stage r (inr (inr u)) = inr u
 
-  early_or : (doc : Document) (net : Network) → HoldsInput Judging [] words.document files doc net → HasEndpoints net words.from words.to → (r : FileRefusal) → Early words.document (prefers_policy words) files r → ⊥
+  early_or : (doc : Document) (net : Network) → HoldsInput Judging [] words.document files doc net → HasEndpoints net words.from words.to → (r : FileRefusal) →
+      Early words.document (prefers_policy words) files r → ⊥
   early_or = early_none words.document (prefers_policy words) files
 
-  named_or : (doc : Document) (net : Network) (wanted : List Router) → HoldsInput Judging [] words.document files doc net → AreNamed net words.routers wanted → (r : FileRefusal) → RefusesRouter words files r → ⊥
+  named_or : (doc : Document) (net : Network) (wanted : List Router) → HoldsInput Judging [] words.document files doc net → AreNamed net words.routers wanted →
+      (r : FileRefusal) → RefusesRouter words files r → ⊥
   named_or doc net wanted input named r u =
       known_or_unknown u.net words.routers wanted u.place (one_input words.document files doc u.doc net u.net input u.input (λ d n. AreNamed n words.routers wanted) named) u.first
 
@@ -67,7 +70,8 @@ module _ (words : PrefersWords) (files : Files) where
   pub refused_once : (r s : FileRefusal) → IsPrefersRefusal words files r → IsPrefersRefusal words files s → r ≡ s
   refused_once r s u v = once r s (stage r u) (stage s v)
 
-  pub held_or_refused : (doc : Document) (net : Network) (wanted : List Router) → HoldsInput Judging [] words.document files doc net → HasEndpoints net words.from words.to → AreNamed net words.routers wanted →
+  pub held_or_refused : (doc : Document) (net : Network) (wanted : List Router) → HoldsInput Judging [] words.document files doc net →
+      HasEndpoints net words.from words.to → AreNamed net words.routers wanted →
       PoliciesHaveFewClasses net (policies_with doc (prefers_policy words)) → (r : FileRefusal) → IsPrefersRefusal words files r → ⊥
   held_or_refused doc net wanted input ends named classes r refused = elim (stage r refused) [
     | inl early ↦ early_or doc net input ends r early

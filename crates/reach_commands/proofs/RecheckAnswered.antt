@@ -1,4 +1,4 @@
--- What `recheck` answers.
+-- The answers of `recheck`.
 use Rattle.std.proofs.Common.{◌≡◌, ◌≤◌, inr, List, [], ◌∙◌, subst}
 use Rattle.std.specs.Prelude.{Option, Some, None, IfSome, Ok, Err}
 use Rattle.std.specs.List.{AllZip}
@@ -48,7 +48,7 @@ classes_stopped held one two first second words doc input stop told read input_i
     let Q : Option Files → Type 0 = λ o. IfSome o (λ files. HoldsDocument words.document files doc → ReadsRouterFiles Judging [] words.document files (Ok input)) in
     classes_stopped_here held words doc input stop told (subst P first read) (subst Q (second ∙ first) input_is)
 
--- the second reading is stopped; a file that was within its limit is not refused then
+-- if the second reading is stopped, it is not for a file that was within its limit
 reading_stopped_here : (held : Option Files) (words : RecheckWords) (input : Input) (stop : Stop) → IfSome held (λ files. IsWithinLimit proof_limit files words.report (Ok tt)) →
     IfSome held (λ files. ReadsHeld proof_limit input.net input.doc words.report files (Err stop)) → Answers IsJudging (IsRecheckRefusal words) (IsRecheckAnswer words) held (Err stop)
 reading_stopped_here None words input (stops.Refused r) read late = tt
@@ -68,7 +68,8 @@ answered_here : (held : Option Files) (words : RecheckWords) (doc : Document) (i
     (alone : List (Option (List Link))) (done : Done) →
     IfSome held (λ files. ReadsDocumentAt words.document files (Ok doc)) → IfSome held (λ files. IsWithinLimit proof_limit files words.report (Ok tt)) →
     IfSome held (λ files. HoldsDocument words.document files doc → ReadsRouterFiles Judging [] words.document files (Ok input)) → IsFit input → PoliciesHaveFewClasses input.net input.doc.policies →
-    IfSome held (λ files. ReadsHeld proof_limit input.net input.doc words.report files (Ok blocks)) → AreRechecked input.net input.doc.policies blocks rechecked → AllZip (IsAloneAnswer input.net) input.doc.policies alone →
+    IfSome held (λ files. ReadsHeld proof_limit input.net input.doc words.report files (Ok blocks)) →
+    AreRechecked input.net input.doc.policies blocks rechecked → AllZip (IsAloneAnswer input.net) input.doc.policies alone →
     done.text ≡ recheck_text input.net input.doc.policies rechecked alone → done.writes ≡ [] → done.status ≡ rechecked_status rechecked → done.status ≤ 1 →
     Answers IsJudging (IsRecheckRefusal words) (IsRecheckAnswer words) held (Ok done)
 answered_here None words doc input blocks rechecked alone done told read input_is fit classes are_held are_rechecked are_alone text writes status few =
@@ -96,7 +97,8 @@ pub answered : (held one two three : Option Files) → one ≡ held → two ≡ 
     (rechecked : List Rechecked) (alone : List (Option (List Link))) (done : Done) →
     IfSome held (λ files. ReadsDocumentAt words.document files (Ok doc)) → IfSome one (λ files. IsWithinLimit proof_limit files words.report (Ok tt)) →
     IfSome two (λ files. HoldsDocument words.document files doc → ReadsRouterFiles Judging [] words.document files (Ok input)) → IsFit input → PoliciesHaveFewClasses input.net input.doc.policies →
-    IfSome three (λ files. ReadsHeld proof_limit input.net input.doc words.report files (Ok blocks)) → AreRechecked input.net input.doc.policies blocks rechecked → AllZip (IsAloneAnswer input.net) input.doc.policies alone →
+    IfSome three (λ files. ReadsHeld proof_limit input.net input.doc words.report files (Ok blocks)) →
+    AreRechecked input.net input.doc.policies blocks rechecked → AllZip (IsAloneAnswer input.net) input.doc.policies alone →
     done.text ≡ recheck_text input.net input.doc.policies rechecked alone → done.writes ≡ [] → done.status ≡ rechecked_status rechecked → done.status ≤ 1 →
     Answers IsJudging (IsRecheckRefusal words) (IsRecheckAnswer words) held (Ok done)
 answered held one two three first second third words doc input blocks rechecked alone done told read input_is fit classes are_held =

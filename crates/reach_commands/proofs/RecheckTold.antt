@@ -1,4 +1,4 @@
--- What the status of `recheck` tells.
+-- What the status of `recheck` says.
 use Rattle.std.proofs.Common.{◌≡◌, ◌⊎◌, zero, suc, inl, inr, Bool, true, false, List, [], ◌∷◌, refl, sym, ◌∙◌, ap, arith}
 use Rattle.std.specs.Prelude.{if◌then◌else◌, None, All, ◌&&◌}
 use Rattle.std.specs.List.{AllZip, list_all}
@@ -29,7 +29,7 @@ use Rattle.reach_commands.proofs.RecheckedEach.{are_right}
 abbrev pub yes : Rechecked → Bool
 yes r = is_yes r.verdict
 
--- each policy is met exactly where each verdict is a yes
+-- each policy is met exactly if each verdict is a yes
 met_if : (net : Network) → IsValid net → (policies : List Policy) (rs : List Rechecked) → AllZip (IsRightOn net) policies rs → list_all yes rs ≡ true → All (Meets net) policies
 met_if net valid [] [] right all k d within = absurd (omega (arith, within))
 met_if net valid [] (r ∷ rs) right all k d within = absurd right
@@ -55,7 +55,7 @@ module _ (words : RecheckWords) (files : Files) where
   yes_or_no yes' no' =
       no'.meets_not (one_input words.document files yes'.doc no'.doc yes'.net no'.net yes'.input no'.input (λ d n. MeetsDocument n d) yes'.meets)
 
-  -- a refusal is the old report's, or one of a command that judges, and then the old report is not refused before it
+  -- a refusal is that of the old report, or one of a command that judges, where the old report is not refused before it
   abbrev Stage : FileRefusal → Type 0
   Stage r = RefusesReport words files r ⊎ (IsJudgingRefusal Judging words.document files r × ((s : FileRefusal) → RefusesReport words files s → ⊥))
 
@@ -78,7 +78,8 @@ module _ (words : RecheckWords) (files : Files) where
   pub refused_once : (r s : FileRefusal) → IsRecheckRefusal words files r → IsRecheckRefusal words files s → r ≡ s
   refused_once r s u v = once r s (stage r u) (stage s v)
 
-  pub held_or_refused : (doc : Document) (net : Network) → HoldsInput Judging [] words.document files doc net → read_refusal proof_limit files words.report ≡ None → PoliciesHaveFewClasses net doc.policies →
+  pub held_or_refused : (doc : Document) (net : Network) → HoldsInput Judging [] words.document files doc net →
+      read_refusal proof_limit files words.report ≡ None → PoliciesHaveFewClasses net doc.policies →
       (r : FileRefusal) → IsRecheckRefusal words files r → ⊥
   held_or_refused doc net input held classes r refused = elim (stage r refused) [
     | inl u ↦ no_value (read_refusal proof_limit files words.report) r u.refused held

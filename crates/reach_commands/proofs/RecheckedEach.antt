@@ -14,7 +14,7 @@ use Rattle.arc_recheck.specs.Rechecks.{IsRechecked}
 use Rattle.reach_commands.specs.RecheckRuns.{AreRechecked, IsRightOn}
 use Rattle.reach_commands.proofs.AddedPolicy.{read_before, read_last}
 
--- the first policies, so many, are rechecked
+-- the first `n` policies are rechecked
 pub record AreRecheckedBelow (net : Network) (policies : List Policy) (held : List Verdict) (n : ℕ) (rechecked : List Rechecked) : Type 0 where
   pub count : length rechecked ≡ n
   pub each : (k : ℕ) (policy : Policy) → k < n → slice_get policies k ≡ Some policy → IsSomeAnd (slice_get rechecked k) (IsRechecked net policies policy (slice_get held k))
@@ -65,7 +65,8 @@ all_right net (policy ∷ policies) [] count each = absurd (omega (arith, count)
 all_right net (policy ∷ policies) (r ∷ rs) count each =
     (each 0 policy refl, all_right net policies rs (omega (arith, count)) (λ k p at. each (suc k) p at))
 
-right_of : (net : Network) (policies : List Policy) (policy : Policy) (old : Option Verdict) (o : Option Rechecked) → IsSomeAnd o (IsRechecked net policies policy old) → IsSomeAnd o (IsRightOn net policy)
+right_of : (net : Network) (policies : List Policy) (policy : Policy) (old : Option Verdict) (o : Option Rechecked) →
+    IsSomeAnd o (IsRechecked net policies policy old) → IsSomeAnd o (IsRightOn net policy)
 right_of net policies policy old None h = absurd h
 right_of net policies policy old (Some r) h = h.right
 

@@ -1,5 +1,5 @@
--- A command that judges one more policy besides those of the document: it goes from the one prefix
--- of the words to the other, and comes after them.
+-- Commands that judge one more policy besides those of the document: one from a prefix of the words
+-- to another, at the end of the policies.
 use Rattle.std.specs.Prelude.{◌≡◌, ℕ, List, [], ◌∷◌, ◌++◌, Result, Ok, Err}
 use Rattle.arc_base.specs.declared.prefix.Prefix.{Prefix}
 use Rattle.arc_base.specs.declared.refusal.Kind.TheVariants.{Endpoint, Limit}
@@ -24,7 +24,7 @@ abbrev pub reach_policy : Prefix → Prefix → ℕ → Policy
 reach_policy from to failures =
     record { kind = Reach failures; from = from; to = to; service = whole_service }
 
--- the policies of the document, and this one at their end
+-- the policies of the document, with this one at the end
 abbrev pub policies_with : Document → Policy → List Policy
 policies_with doc policy = doc.policies ++ policy ∷ []
 
@@ -38,7 +38,7 @@ pub record RefusesEnds (document : List ℕ) (policy : Policy) (files : Files)
   pub ends : ¬ HasEndpoints net policy.from policy.to
   pub told : r ≡ refusal_of document 0 Endpoint
 
--- with the policy the document's policies have too many classes
+-- with this policy at the end the document's policies have too many classes
 pub record RefusesClassesWith (document : List ℕ) (policy : Policy) (files : Files)
     (r : FileRefusal) : Type 0 where
   pub doc : Document
@@ -49,7 +49,8 @@ pub record RefusesClassesWith (document : List ℕ) (policy : Policy) (files : F
   pub many : HasManyClasses net (policies_with doc policy) count
   pub told : r ≡ refusal_of document 0 (Limit Classes count)
 
--- the policies with this one at their end, or the refusal of its prefixes
+-- the answer of adding a policy: the policies with this one at the end, or the refusal of its
+-- prefixes
 abbrev pub AddsPolicy : List ℕ → Network → List Policy → Policy → Result (List Policy) Stop → Type 0
 AddsPolicy document net policies policy (Ok judged) =
     HasEndpoints net policy.from policy.to × (judged ≡ policies ++ policy ∷ [])

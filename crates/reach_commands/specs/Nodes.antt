@@ -8,7 +8,7 @@ use Rattle.net_model.specs.Validity.{IsValid}
 use Rattle.net_rules.specs.Addressing.{HasEndpoints}
 use Rattle.arc_nodecut.specs.declared.verdict.NodeVerdict.{NodeVerdict}
 use Rattle.arc_nodecut.specs.RouterFailures.{MeetsPast}
-use Rattle.arc_nodecut.specs.NodeWitnesses.{IsRightNodeVerdict, is_yes}
+use Rattle.arc_nodecut.specs.NodeWitnesses.{IsRightNodeVerdict, is_node_yes}
 use Rattle.arc_nodecut.specs.Given.{IsGiven}
 use Rattle.arc_nodecut.specs.NodeText.{nodes_text}
 use Rattle.command_words.specs.declared.commands.NodesWords.{NodesWords}
@@ -31,9 +31,9 @@ IsNodesRefusal words files r =
     (RefusesEnds words.document (nodes_policy words) files r ⊎
     RefusesClassesWith words.document (nodes_policy words) files r)
 
--- 0 for a yes, and else 1
+-- 0 for a yes, else 1
 abbrev pub nodes_status : NodeVerdict → ℕ
-nodes_status v = if is_yes v then 0 else 1
+nodes_status v = if is_node_yes v then 0 else 1
 
 -- the text of a right verdict, which is the one that is given
 pub record IsNodesAnswer (words : NodesWords) (files : Files) (done : Done) : Type 0 where
@@ -51,7 +51,7 @@ pub record IsNodesAnswer (words : NodesWords) (files : Files) (done : Done) : Ty
   pub status : done.status ≡ nodes_status verdict
 
 -- the input has a network with these ends and not too many classes, which meets the policy
--- whichever K routers fail
+-- whichever K routers other than the ends fail
 pub record NodesSayYes (words : NodesWords) (files : Files) : Type 0 where
   pub doc : Document
   pub net : Network
@@ -60,8 +60,8 @@ pub record NodesSayYes (words : NodesWords) (files : Files) : Type 0 where
   pub classes : PoliciesHaveFewClasses net (policies_with doc (nodes_policy words))
   pub meets : MeetsPast net (nodes_policy words)
 
--- it has such a network, which does not: some packet is stuck once some K routers fail, or the
--- policy is not clear
+-- the input has a network with these ends and not too many classes, which does not meet the policy:
+-- some packet is stuck once some K routers fail, or the policy is not clear
 pub record NodesSayNo (words : NodesWords) (files : Files) : Type 0 where
   pub doc : Document
   pub net : Network
@@ -70,7 +70,7 @@ pub record NodesSayNo (words : NodesWords) (files : Files) : Type 0 where
   pub classes : PoliciesHaveFewClasses net (policies_with doc (nodes_policy words))
   pub meets_not : ¬ MeetsPast net (nodes_policy words)
 
--- it has none, and there is a first reason for it
+-- the input, the prefixes or the number of classes is refused
 pub record NodesAreRefused (words : NodesWords) (files : Files) : Type 0 where
   pub refusal : FileRefusal
   pub refused : IsNodesRefusal words files refusal

@@ -51,7 +51,7 @@ pub record IsFirstUnknown (net : Network) (names : List (List ℕ)) (place : ℕ
 abbrev pub AreNamed : Network → List (List ℕ) → List Router → Type 0
 AreNamed net names wanted = AllZip (IsNamed net) names wanted
 
--- a name is no router's: the first such, by its place among the names, from 1
+-- a name is that of no router: the refusal has the place of the first such name, counted from 1
 pub record RefusesRouter (words : PrefersWords) (files : Files) (r : FileRefusal) : Type 0 where
   pub doc : Document
   pub net : Network
@@ -61,7 +61,7 @@ pub record RefusesRouter (words : PrefersWords) (files : Files) (r : FileRefusal
   pub first : IsFirstUnknown net words.routers place
   pub told : r ≡ refusal_of words.document (place + 1) UnknownRouter
 
--- each name is a router's, and there are too many classes
+-- each name is that of a router, and there are too many classes
 pub record RefusesPreferClasses (words : PrefersWords) (files : Files)
     (r : FileRefusal) : Type 0 where
   pub many : RefusesClassesWith words.document (prefers_policy words) files r
@@ -69,14 +69,14 @@ pub record RefusesPreferClasses (words : PrefersWords) (files : Files)
   pub named : AreNamed many.net words.routers wanted
 
 -- The first refusal: of the input; that the prefixes do not lie in two different host networks;
--- that a name is no router's; or that there are too many classes.
+-- that a name is that of no router; or that there are too many classes.
 abbrev pub IsPrefersRefusal : PrefersWords → Files → FileRefusal → Type 0
 IsPrefersRefusal words files r =
     IsInputRefusal Judging [] words.document files r ⊎
     (RefusesEnds words.document (prefers_policy words) files r ⊎
     (RefusesRouter words files r ⊎ RefusesPreferClasses words files r))
 
--- 0 where there is no fault, and else 1
+-- 0 if there is no fault, else 1
 abbrev pub prefers_status : Option Stray → ℕ
 prefers_status None = 0
 prefers_status (Some stray) = 1
@@ -111,7 +111,8 @@ pub record PrefersSaysYes (words : PrefersWords) (files : Files) : Type 0 where
   pub classes : PoliciesHaveFewClasses net (policies_with doc (prefers_policy words))
   pub prefers : Prefers net (prefers_policy words) wanted
 
--- it has such a network, which does not prefer the list
+-- the input has a network with these ends and routers and not too many classes, which does not
+-- prefer the list
 pub record PrefersSaysNo (words : PrefersWords) (files : Files) : Type 0 where
   pub doc : Document
   pub net : Network
@@ -122,7 +123,7 @@ pub record PrefersSaysNo (words : PrefersWords) (files : Files) : Type 0 where
   pub classes : PoliciesHaveFewClasses net (policies_with doc (prefers_policy words))
   pub prefers_not : ¬ Prefers net (prefers_policy words) wanted
 
--- it has none, and there is a first reason for it
+-- the input, the prefixes, a name of a router or the number of classes is refused
 pub record PrefersIsRefused (words : PrefersWords) (files : Files) : Type 0 where
   pub refusal : FileRefusal
   pub refused : IsPrefersRefusal words files refusal
@@ -134,7 +135,7 @@ pub record TellsPrefers (words : PrefersWords) (status : ℕ) (files : Files) : 
   pub refused_exactly : (status ≡ 5) ↔ PrefersIsRefused words files
   pub nothing_else : (status ≡ 0) ⊎ ((status ≡ 1) ⊎ (status ≡ 5))
 
--- what looking for the routers of the names answers
+-- the answer of looking up routers by name: the routers, or the refusal of the first unknown name
 abbrev pub FindsRouters : List ℕ → Network → List (List ℕ) → Result (List Router) Stop → Type 0
 FindsRouters document net names (Ok wanted) = AreNamed net names wanted
 FindsRouters document net names (Err (stops.Refused r)) =

@@ -64,11 +64,11 @@ pub record AreRechecked (net : Network) (policies : List Policy) (held : List Ve
 abbrev pub IsRightOn : Network → Policy → Rechecked → Type 0
 IsRightOn net policy r = IsRight net policy r.verdict
 
--- 0 where each verdict is a yes, and else 1
+-- 0 if each verdict is a yes, else 1
 abbrev pub rechecked_status : List Rechecked → ℕ
 rechecked_status rechecked = if list_all (λ r. is_yes r.verdict) rechecked then 0 else 1
 
--- the text of the rechecked verdicts and of the links that each reach policy hangs on
+-- the text of the rechecked verdicts, and of the links whose failure alone breaks each reach policy
 pub record IsRecheckAnswer (words : RecheckWords) (files : Files) (done : Done) : Type 0 where
   pub doc : Document
   pub net : Network
@@ -95,7 +95,8 @@ pub record RecheckSaysYes (words : RecheckWords) (files : Files) : Type 0 where
   pub classes : PoliciesHaveFewClasses net doc.policies
   pub meets : MeetsDocument net doc
 
--- the same, and the network does not meet every policy
+-- the input has a network and not too many classes, the old report can be read, and the network
+-- does not meet every policy
 pub record RecheckSaysNo (words : RecheckWords) (files : Files) : Type 0 where
   pub doc : Document
   pub net : Network
@@ -104,13 +105,13 @@ pub record RecheckSaysNo (words : RecheckWords) (files : Files) : Type 0 where
   pub classes : PoliciesHaveFewClasses net doc.policies
   pub meets_not : ¬ MeetsDocument net doc
 
--- there is none, or the old report cannot be read, and there is a first reason for it
+-- the input, the old report's file or the number of classes is refused
 pub record RecheckIsRefused (words : RecheckWords) (files : Files) : Type 0 where
   pub refusal : FileRefusal
   pub refused : IsRecheckRefusal words files refusal
 
--- The status says which of the three it is: 0 for yes, 1 for no, and 5 for refused. Whatever the
--- old report holds, it is that of `verify`.
+-- The status says which of the three it is: 0 for yes, 1 for no, and 5 for refused. Except for a
+-- refusal of the old report's file it is the status of `verify`.
 pub record TellsRecheck (words : RecheckWords) (status : ℕ) (files : Files) : Type 0 where
   pub yes_exactly : (status ≡ 0) ↔ RecheckSaysYes words files
   pub no_exactly : (status ≡ 1) ↔ RecheckSaysNo words files

@@ -1,4 +1,4 @@
-//! One more policy besides those of the document: reach from the one prefix to the other.
+//! A policy besides those of the document: reach from one prefix to another.
 ghost use Rattle.net_model.specs.Forwarding.{HasEnds};
 ghost use Rattle.net_model.specs.Packets.{subject};
 ghost use Rattle.net_model.specs.Validity.{IsValid};
@@ -23,7 +23,7 @@ pub(crate) fn reach_policy(from: Prefix, to: Prefix, failures: u32) -> Policy
     }
 }
 
-/// The policies with one more at their end. The document is refused where that does not go from one
+/// The policies with one more at the end. The document is refused if that one does not lead from a
 /// host network to another.
 pub(crate) fn with_policy(
     alloc: Global,

@@ -29,8 +29,7 @@ pub fn recheck_is_told()
         (λ status before after. TellsRecheck words status before) }
 {}
 
-/// `nodes` has at most one first refusal of its words and files, and never both a refusal and an
-/// answer.
+/// `nodes` has at most one first refusal of its words and files, and never a refusal and an answer.
 pub fn nodes_have_one_refusal()
     ensures one_refusal { (words : NodesWords) (files : Files) (r s : FileRefusal)
         → IsNodesRefusal words files r → IsNodesRefusal words files s → r ≡ s }
@@ -38,7 +37,7 @@ pub fn nodes_have_one_refusal()
         → IsNodesAnswer words files done → IsNodesRefusal words files r → ⊥ }
 {}
 
-/// `prefers` has at most one first refusal of its words and files, and never both a refusal and an
+/// `prefers` has at most one first refusal of its words and files, and never a refusal and an
 /// answer.
 pub fn prefers_has_one_refusal()
     ensures one_refusal { (words : PrefersWords) (files : Files) (r s : FileRefusal)
@@ -47,7 +46,7 @@ pub fn prefers_has_one_refusal()
         → IsPrefersAnswer words files done → IsPrefersRefusal words files r → ⊥ }
 {}
 
-/// `recheck` has at most one first refusal of its words and files, and never both a refusal and an
+/// `recheck` has at most one first refusal of its words and files, and never a refusal and an
 /// answer.
 pub fn recheck_has_one_refusal()
     ensures one_refusal { (words : RecheckWords) (files : Files) (r s : FileRefusal)

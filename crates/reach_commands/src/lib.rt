@@ -1,6 +1,6 @@
-//! The commands that reach further: `nodes` judges reach under failed routers, `prefers` whether
-//! packets go by a list of routers, and `recheck` an old report after a change. Each reads its
-//! input, judges it by a crate of its own, and prints the answer with what shows it.
+//! The commands that go beyond `verify`: `nodes` judges reach under failed routers, `prefers`
+//! whether packets go by a list of routers, and `recheck` an old report after a change. Each reads
+//! its input, judges it by a crate of its own, and prints the answer with its witness.
 #![tactic(auto)]
 
 mod added;

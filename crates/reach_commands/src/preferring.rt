@@ -56,9 +56,8 @@ fn status_of(answer: &Preferred) -> u8
     }
 }
 
-/// Judges whether, with all links up, the packets from the one prefix to the other go by exactly
-/// these routers, and prints the answer with its distances and, if it is a no, what goes another
-/// way.
+/// Judges whether, with all links up, the packets from one prefix to the other go by exactly these
+/// routers, and prints the answer with the distances and, if it is no, what shows it.
 pub fn prefers<S: Store>(alloc: Global, words: &PrefersWords, store: &mut S) -> Result<Done, Stop>
     ensures answer { Answers IsJudging (IsPrefersRefusal words.now) (IsPrefersAnswer words.now)
         (S.held store.old) result }

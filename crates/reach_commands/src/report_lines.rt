@@ -1,4 +1,4 @@
-//! The second reading of an old report: its blocks are taken line by line.
+//! The second reading of an old report: its blocks, line by line.
 ghost use Rattle.reach_commands.specs.ReportLines.{ReadsHeld};
 ghost use Rattle.run_files.specs.Answers.{OnlyReads};
 ghost use Rattle.std.specs.Prelude.{IfSome};
@@ -11,7 +11,7 @@ use run_files::{LineJudge, Stop, judge_lines};
 use std::alloc::Global;
 use std::ops::ControlFlow;
 
-/// The blocks that an old report holds, taken over one network and document.
+/// The blocks of an old report, read for one network and document.
 #[derive(Drop)]
 struct HeldLines<'a> {
     net: &'a Network,
@@ -57,7 +57,7 @@ impl<'a> LineJudge for HeldLines<'a> {
     }
 }
 
-/// The verdicts of the blocks that an old report holds, or a refusal of its file.
+/// The verdicts of the blocks of an old report that can be read, or a refusal of its file.
 pub fn read_held<S: Store>(
     alloc: Global,
     net: &Network,

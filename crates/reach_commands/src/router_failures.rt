@@ -55,8 +55,8 @@ fn status_of(verdict: &NodeVerdict) -> u8
     }
 }
 
-/// Judges whether the packets from the one prefix to the other reach it whichever K routers fail
-/// other than their ends, and prints the verdict with its witness.
+/// Judges whether the packets from one prefix to the other arrive whichever K routers other than
+/// their ends fail, and prints the verdict with its witness.
 pub fn nodes<S: Store>(alloc: Global, words: &NodesWords, store: &mut S) -> Result<Done, Stop>
     requires few { words.now.failures ≤ FAILURE_LIMIT }
     ensures answer { Answers IsJudging (IsNodesRefusal words.now) (IsNodesAnswer words.now)

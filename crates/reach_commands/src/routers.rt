@@ -30,8 +30,8 @@ fn is_named(net: &Network, name: &[u8], place: u32) -> bool
     }
 }
 
-/// The routers of these names in order. The first name that no router has is refused, by its place
-/// from 1.
+/// The routers of these names in order. The first name that no router has is refused, by its place,
+/// counted from 1.
 pub(crate) fn routers_named(
     alloc: Global,
     document: &Name,

@@ -23,7 +23,7 @@ use Rattle.copy_laws.proofs.Mirrors.{Mirrors}
 use Rattle.copy_laws.proofs.Meeting.{AreAlike, reach_for, clear_there}
 use Rattle.copy_laws.proofs.Listless.{kin, mirrors, usable_there}
 use Rattle.copy_laws.proofs.Passed.{alike, enters_there, leaves_there, same_back}
-use Rattle.arc_nodecut.specs.RouterFailures.{RouterSet, is_down, links_down, MayFail, MeetsPastAs}
+use Rattle.arc_nodecut.specs.RouterFailures.{RouterSet, is_face_down, links_down, MayFail, MeetsPastAs}
 use Rattle.reach_copy_laws.specs.Laws.{FewerKeepsPast, FewerKeepsPastReally}
 
 of_router : (down : RouterSet) (o : Option FaceRow) → option_map_or (λ (row : FaceRow). down row.router.0) (option_map listless_face o) false ≡
@@ -31,18 +31,18 @@ of_router : (down : RouterSet) (o : Option FaceRow) → option_map_or (λ (row :
 of_router down None = refl
 of_router down (Some row) = refl
 
-face_down : (net : Network) (down : RouterSet) (face : Face) → is_down (listless net) down face ≡ is_down net down face
+face_down : (net : Network) (down : RouterSet) (face : Face) → is_face_down (listless net) down face ≡ is_face_down net down face
 face_down net down face =
     ap (λ (o : Option FaceRow). option_map_or (λ (row : FaceRow). down row.router.0) o false) (slice_get-map listless_face net.faces face.0) ∙
     of_router down (slice_get net.faces face.0)
 
 end_down : (net : Network) (down : RouterSet) (o : Option LinkRow) →
-    option_map_or (λ (row : LinkRow). is_down (listless net) down row.a || is_down (listless net) down row.b) o false ≡
-    option_map_or (λ (row : LinkRow). is_down net down row.a || is_down net down row.b) o false
+    option_map_or (λ (row : LinkRow). is_face_down (listless net) down row.a || is_face_down (listless net) down row.b) o false ≡
+    option_map_or (λ (row : LinkRow). is_face_down net down row.a || is_face_down net down row.b) o false
 end_down net down None = refl
 end_down net down (Some row) =
-    ap (λ (b : Bool). b || is_down (listless net) down row.b) (face_down net down row.a) ∙
-    ap (λ (b : Bool). is_down net down row.a || b) (face_down net down row.b)
+    ap (λ (b : Bool). b || is_face_down (listless net) down row.b) (face_down net down row.a) ∙
+    ap (λ (b : Bool). is_face_down net down row.a || b) (face_down net down row.b)
 
 -- the same links fail with the routers
 same_down : (net copy : Network) → DifferInLists net copy → (down : RouterSet) (link : ℕ) → links_down net down link ≡ links_down copy down link

@@ -16,9 +16,17 @@ texts-blocks text none = record {
 module _ (Reason : Refusal → Type 0) (none : (r : Refusal) → ¬ IsFirst Reason r) where
   by-number : (file : ℕ) → ((o : Refusal) → o.file < file → Reason o → ⊥) → (number : ℕ) (r : Refusal) → r.file ≡ file → r.number ≤ number → Reason r → ⊥
   by-number file earlier zero r here low made =
-      none r (record { made = made; first = λ other is before. ⊎_elim (λ (l : other.file < r.file). earlier other (omega (arith, l, here)) is) (λ (h : (other.file ≡ r.file) × (other.number < r.number)). absurd (let less = h.1 in omega (arith, less, low))) before })
+      none r (record {
+        made = made;
+        first = λ other is before. ⊎_elim (λ (l : other.file < r.file). earlier other (omega (arith, l, here)) is)
+            (λ (h : (other.file ≡ r.file) × (other.number < r.number)). absurd (let less = h.1 in omega (arith, less, low))) before;
+      })
   by-number file earlier (suc number) r here low made =
-      none r (record { made = made; first = λ other is before. ⊎_elim (λ (l : other.file < r.file). earlier other (omega (arith, l, here)) is) (λ (h : (other.file ≡ r.file) × (other.number < r.number)). by-number file earlier number other (h.0 ∙ here) (let less = h.1 in omega (arith, less, low)) is) before })
+      none r (record {
+        made = made;
+        first = λ other is before. ⊎_elim (λ (l : other.file < r.file). earlier other (omega (arith, l, here)) is)
+            (λ (h : (other.file ≡ r.file) × (other.number < r.number)). by-number file earlier number other (h.0 ∙ here) (let less = h.1 in omega (arith, less, low)) is) before;
+      })
 
   by-file : (file : ℕ) (r : Refusal) → r.file < file → Reason r → ⊥
   by-file zero r low made = absurd (omega (arith, low))

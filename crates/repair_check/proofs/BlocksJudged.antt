@@ -1,4 +1,4 @@
--- The blocks of a certificate are passed exactly where their verdicts are right.
+-- The blocks of a certificate are passed exactly if their verdicts are right.
 use Rattle.std.proofs.Common.{◌≡◌, ℕ, ◌+◌, ◌==◌, Bool, true, false, inl, inr, List, [], ◌∷◌, ◌++◌, length, map, refl, subst, arith, eq-eqb}
 use Rattle.std.specs.Prelude.{MatchBool, Result, Ok}
 use Rattle.std.specs.List.{AllZip}
@@ -19,10 +19,10 @@ use Rattle.policy_report.specs.Rereading.{blocks_answers, more}
 use Rattle.report_check.specs.declared.outcome.Outcome.{Outcome}
 use Rattle.report_check.proofs.Rights.{AreRightFrom}
 use Rattle.arc_repair.specs.Claims.{IsRightYes}
-use Rattle.repair_check.specs.Outcomes.{Answers, IsBlocksOutcome, IsLogOutcome}
+use Rattle.repair_check.specs.Outcomes.{ReaderAnswers, IsBlocksOutcome, IsLogOutcome}
 use Rattle.repair_check.proofs.Logs.{AcceptsIf, Passes, log_exact, never, steps_told}
 
--- where not all policies are judged, and where all are
+-- what follows if not all policies are judged, and if all are
 not_all : (b : Bool) (P Q : Type 0) → b ≡ false → MatchBool b P Q → Q
 not_all b P Q e h = subst (λ (x : Bool). MatchBool x P Q) e h
 
@@ -37,13 +37,14 @@ differ m n h =
     ]
 
 module _ (net now : Network) (policies : List Policy) (needs : Bool) (known : Knowledge) (told : List Told) (o : Outcome) where
-  -- the lines of a block that goes on are passed
-  passed : (judged first number : ℕ) (ls : List (List ℕ)) (last : Result Got CertFault) (rest : Answers) → (judged == length policies) ≡ false →
+  -- the lines inside a block are passed
+  passed : (judged first number : ℕ) (ls : List (List ℕ)) (last : Result Got CertFault) (rest : ReaderAnswers) → (judged == length policies) ≡ false →
       IsBlocksOutcome now policies needs known judged first number ((more ls ++ last ∷ []) ++ rest) o → (n : ℕ) × IsBlocksOutcome now policies needs known judged first n (last ∷ rest) o
   passed judged first number [] last rest unfinished h = (number, h)
   passed judged first number (line ∷ ls) last rest unfinished h =
       passed judged first (number + 1) ls last rest unfinished
-      (not_all (judged == length policies) (IsLogOutcome needs known (number + 1) ((more ls ++ last ∷ []) ++ rest) o) (IsBlocksOutcome now policies needs known judged first (number + 1) ((more ls ++ last ∷ []) ++ rest) o) unfinished h)
+      (not_all (judged == length policies) (IsLogOutcome needs known (number + 1) ((more ls ++ last ∷ []) ++ rest) o)
+      (IsBlocksOutcome now policies needs known judged first (number + 1) ((more ls ++ last ∷ []) ++ rest) o) unfinished h)
 
   pub blocks_exact : (judged first number : ℕ) (vs : List verdicts.Verdict) → judged + length vs ≡ length policies →
       IsBlocksOutcome now policies needs known judged first number (blocks_answers net judged vs (log_answers told)) o →
@@ -51,7 +52,8 @@ module _ (net now : Network) (policies : List Policy) (needs : Bool) (known : Kn
   blocks_exact judged first number [] whole h =
       let all : (judged == length policies) ≡ true = eq-eqb judged (length policies) (omega (arith, whole)) in
       let Log : Type 0 = IsLogOutcome needs known (number + 1) (map told_answer told ++ Ok End ∷ []) o in
-      let log = log_exact needs known (number + 1) told o (all_judged (judged == length policies) Log (IsBlocksOutcome now policies needs known judged first (number + 1) (map told_answer told ++ Ok End ∷ []) o) all h) in
+      let log = log_exact needs known (number + 1) told o
+      (all_judged (judged == length policies) Log (IsBlocksOutcome now policies needs known judged first (number + 1) (map told_answer told ++ Ok End ∷ []) o) all h) in
       (λ e. (tt, log.0 e), λ p. log.1 p.1)
   blocks_exact judged first number (v ∷ vs) whole h =
       let unfinished : (judged == length policies) ≡ false = differ judged (length policies) (λ (e : judged ≡ length policies). omega (arith, whole, e)) in

@@ -15,12 +15,13 @@ use Rattle.policy_report.specs.Recertifying.{CertificatesAreReadAgain, Told, cer
 use Rattle.arc_repair.specs.Claims.{claim_bound}
 use Rattle.repair_check.specs.Certifies.{CertificatesNameTheirBound, HasBound, text_answers}
 
--- the form that names what is claimed
+-- the form of the answer that names the claim
 abbrev form_of : Claim → CertForm
 form_of (claims.Repaired price bound flags verdicts) = Repaired price bound
 form_of (claims.NoRepair bound) = NoRepair bound
 
-same_form : (net : Network) (claim : Claim) (told : List Told) (form : CertForm) (rest : List (Result Got CertFault)) → certificate_answers net claim told ≡ Ok More ∷ Ok (Head form) ∷ rest → form_of claim ≡ form
+same_form : (net : Network) (claim : Claim) (told : List Told) (form : CertForm) (rest : List (Result Got CertFault)) →
+    certificate_answers net claim told ≡ Ok More ∷ Ok (Head form) ∷ rest → form_of claim ≡ form
 same_form net (claims.Repaired price bound flags verdicts) told form rest e = cc
 same_form net (claims.NoRepair bound) told form rest e = cc
 

@@ -8,7 +8,7 @@ use Rattle.edit_list.specs.declared.edit_kinds.Edit.{Edit}
 use Rattle.edit_list.specs.declared.edit_kinds.EditFault.{EditFault}
 use Rattle.edit_list.specs.declared.edit_kinds.EditFault.TheVariants.{Limit, Memory}
 use Rattle.edit_list.specs.Prices.{none_of}
-use Rattle.policy_encode.specs.Formulas.{IsFaultOf, IsWithin}
+use Rattle.policy_encode.specs.Formulas.{IsFaultOfFormula, IsWithin}
 use Rattle.proof_check.specs.declared.checker.Checker.{Checker}
 use Rattle.proof_check.specs.Knowledge.{Knowledge}
 use Rattle.policy_report.specs.declared.got.Got.TheVariants.{Head, More}
@@ -18,10 +18,10 @@ use Rattle.std.proofs.lemmas.List.{length-map}
 use Rattle.repair_check.specs.declared.phases.Phase.{Phase}
 use Rattle.repair_check.specs.declared.phases.Phase.TheVariants as phases
 use Rattle.repair_check.specs.Certifies.{CountsBound, HasBound, IsCounted}
-use Rattle.repair_check.specs.Outcomes.{Answers, IsEditsOutcome, IsReadyOutcome}
+use Rattle.repair_check.specs.Outcomes.{ReaderAnswers, IsEditsOutcome, IsReadyOutcome}
 use Rattle.repair_check.specs.Phases.{Goes, IsAt, IsFaultAt, IsReady, IsReadyWithin}
 
--- what is claimed names one bound
+-- an answer names one bound
 bound_of_repair : (price bound other : ℕ) → HasBound other (Repaired price bound) → other ≡ bound
 bound_of_repair price bound other (inl h) = let e = h.1 in cc
 bound_of_repair price bound other (inr e) = absurd (cc)
@@ -34,31 +34,34 @@ one_bound : (form : CertForm) (bound other : ℕ) → HasBound bound form → Ha
 one_bound form bound other (inl h) is = bound_of_repair h.0 bound other (subst (HasBound other) h.1 is)
 one_bound form bound other (inr e) is = bound_of_none bound other (subst (HasBound other) e is)
 
-same_form : (form other : CertForm) (rest others : Answers) → Ok More ∷ Ok (Head form) ∷ rest ≡ Ok More ∷ Ok (Head other) ∷ others → other ≡ form
+same_form : (form other : CertForm) (rest others : ReaderAnswers) → Ok More ∷ Ok (Head form) ∷ rest ≡ Ok More ∷ Ok (Head other) ∷ others → other ≡ form
 same_form form other rest others e = cc
 
--- what is counted is the formula of one bound
-pub counted_once : (told : Answers) (m n : ℕ) → CountsBound told m → CountsBound told n → m ≡ n
+-- the formula is counted for one bound
+pub counted_once : (told : ReaderAnswers) (m n : ℕ) → CountsBound told m → CountsBound told n → m ≡ n
 counted_once told m n a b =
     let forms : a.form ≡ b.form = same_form b.form a.form b.rest a.rest (sym b.begins ∙ a.begins) in
     one_bound b.form n m b.has_bound (subst (HasBound m) forms a.has_bound)
 
 module _ (net : Network) (doc : Document) (list : List Edit) where
-  -- where the formula of the answer's bound is within its limits, it is counted
-  pub counted : (form : CertForm) (bound : ℕ) (all rest : Answers) → HasBound bound form → (bound ≤ 512 → IsWithin net doc list bound) → all ≡ Ok More ∷ Ok (Head form) ∷ rest → IsCounted net doc list all
+  -- if the formula of the answer's bound is within its limits, it is counted
+  pub counted : (form : CertForm) (bound : ℕ) (all rest : ReaderAnswers) → HasBound bound form → (bound ≤ 512 → IsWithin net doc list bound) →
+      all ≡ Ok More ∷ Ok (Head form) ∷ rest → IsCounted net doc list all
   counted form bound all rest has within e other counts =
       let form_is : counts.form ≡ form = same_form form counts.form rest counts.rest (sym e ∙ counts.begins) in
       let same : other ≡ bound = one_bound form bound other has (subst (HasBound other) form_is counts.has_bound) in
       let few : bound ≤ 512 = subst (λ (b : ℕ). b ≤ 512) same counts.few in
       subst (λ (b : ℕ). IsWithin net doc list b) (sym same) (within few)
 
-  -- a fault of the formula is one of counting
-  pub fault_there : (form : CertForm) (bound : ℕ) (fault : EditFault) → HasBound bound form → bound ≤ 512 → IsFaultOf net doc list bound fault → IsFaultAt net doc list phases.Answer (Ok (Head form)) fault
+  -- a fault of the formula is one of counting it
+  pub fault_there : (form : CertForm) (bound : ℕ) (fault : EditFault) → HasBound bound form → bound ≤ 512 → IsFaultOfFormula net doc list bound fault →
+      IsFaultAt net doc list phases.Answer (Ok (Head form)) fault
   fault_there form bound (Limit what count) has few wrong all rest e = (bound, record { few = few; form = form; has_bound = has; rest = rest; begins = e }, wrong)
   fault_there form bound Memory has few wrong all rest e = tt
 
   -- the answer that there is a repair leads to its edits
-  pub repair_begun : (price bound number : ℕ) (flags : Vec Bool Global) (log : Option Checker) → flags.items ≡ none_of list → IsReadyWithin net doc list price bound log → (bound ≤ 512 → IsWithin net doc list bound) →
+  pub repair_begun : (price bound number : ℕ) (flags : Vec Bool Global) (log : Option Checker) → flags.items ≡ none_of list →
+      IsReadyWithin net doc list price bound log → (bound ≤ 512 → IsWithin net doc list bound) →
       Goes net doc list phases.Answer number (Ok (Head (Repaired price bound))) (phases.Edits (record { price = price; bound = bound; chosen = flags; log = log }))
   repair_begun price bound number flags log none ready within = record {
     going = record { flags = ap length none ∙ length-map list (λ e. false); ready = ready };
@@ -66,7 +69,7 @@ module _ (net : Network) (doc : Document) (list : List Edit) where
     at = λ all rest e. counted (Repaired price bound) bound all rest (inl (price, refl)) within e;
   }
 
-  -- the answer that there is none leads to its log
+  -- the answer that there is no repair leads to its log
   pub none_begun : (bound number : ℕ) (checker : Checker) → IsReady net doc list bound (Some bound) checker → IsWithin net doc list bound →
       Goes net doc list phases.Answer number (Ok (Head (NoRepair bound))) (phases.Ready checker)
   none_begun bound number checker ready within = record {
@@ -81,15 +84,15 @@ module _ (net : Network) (doc : Document) (list : List Edit) where
     at = λ all rest e. counted (NoRepair bound) bound all rest (inr refl) (λ few. within) e;
   }
 
-  -- the text ends: what was to be counted was counted
-  pub ends_counted : (phase : Phase) (all : Answers) → IsAt net doc list all phase [] → IsCounted net doc list all
+  -- at the end of the text, what was to be counted was counted
+  pub ends_counted : (phase : Phase) (all : ReaderAnswers) → IsAt net doc list all phase [] → IsCounted net doc list all
   ends_counted phases.Head all e = λ bound counts. absurd (nothing counts.form counts.rest (sym e ∙ counts.begins))
     where
-      nothing : (form : CertForm) (rest : Answers) → [] ≡ Ok More ∷ Ok (Head form) ∷ rest → ⊥
+      nothing : (form : CertForm) (rest : ReaderAnswers) → [] ≡ Ok More ∷ Ok (Head form) ∷ rest → ⊥
       nothing form rest k = absurd (cc)
   ends_counted phases.Answer all e = λ bound counts. absurd (alone counts.form counts.rest (sym e ∙ counts.begins))
     where
-      alone : (form : CertForm) (rest : Answers) → Ok More ∷ [] ≡ Ok More ∷ Ok (Head form) ∷ rest → ⊥
+      alone : (form : CertForm) (rest : ReaderAnswers) → Ok More ∷ [] ≡ Ok More ∷ Ok (Head form) ∷ rest → ⊥
       alone form rest k = absurd (cc)
   ends_counted (phases.Edits claim) all h = h
   ends_counted (phases.Blocks blocks) all h = h

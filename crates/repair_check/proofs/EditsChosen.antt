@@ -14,14 +14,14 @@ use Rattle.policy_report.specs.Reports.{witness_lines}
 use Rattle.policy_report.specs.Recertifying.{Told, chosen_from, edits_answers, log_answers}
 use Rattle.policy_report.specs.Rereading.{blocks_answers, more}
 use Rattle.report_check.specs.declared.outcome.Outcome.{Outcome}
-use Rattle.repair_check.specs.Outcomes.{Answers, IsEditsEnd, IsEditsOutcome}
+use Rattle.repair_check.specs.Outcomes.{ReaderAnswers, IsEditsEnd, IsEditsOutcome}
 
--- the flags with these set
+-- the flags with those at these places set
 abbrev pub set_all : List Bool → List ℕ → List Bool
 set_all flags [] = flags
 set_all flags (place ∷ places) = set_all (set flags place true) places
 
--- one more flag is done
+-- the flags with one more of them done
 moved : (done : List Bool) (flag : Bool) (flags : List Bool) (list : List edits.Edit) →
     set_all ((done ++ flag ∷ []) ++ none_of list) (chosen_from (length (done ++ flag ∷ [])) flags) ≡ (done ++ flag ∷ []) ++ flags →
     set_all (done ++ flag ∷ none_of list) (chosen_from (length done + 1) flags) ≡ done ++ flag ∷ flags
@@ -42,14 +42,14 @@ chosen_after done (false ∷ flags) (e ∷ list) each = moved done false flags l
 pub all_chosen : (flags : List Bool) (list : List edits.Edit) → length flags ≡ length list → set_all (none_of list) (chosen_from 0 flags) ≡ flags
 all_chosen flags list each = chosen_after [] flags list each
 
--- a verdict is told
+-- the line tells a verdict
 abbrev IsVerdict : Result Got CertFault → Type 0
 IsVerdict (Ok (Verdict which v)) = Unit {0}
 IsVerdict other = ⊥
 
 module _ (net : Network) (doc : Document) (list : List edits.Edit) (price bound : ℕ) (o : Outcome) where
-  -- the first line of a block is none of an edit
-  block_ends : (flags : List Bool) (number : ℕ) (ls : List (List ℕ)) (last : Result Got CertFault) (rest : Answers) → IsVerdict last →
+  -- the first line of a block is not an edit
+  block_ends : (flags : List Bool) (number : ℕ) (ls : List (List ℕ)) (last : Result Got CertFault) (rest : ReaderAnswers) → IsVerdict last →
       IsEditsOutcome net doc list price bound flags number ((more ls ++ last ∷ []) ++ rest) o → IsEditsEnd net doc list price bound flags number ((more ls ++ last ∷ []) ++ rest) o
   block_ends flags number [] (Ok (Verdict which v)) rest is h = h
   block_ends flags number [] (Ok More) rest is h = absurd is
@@ -60,9 +60,10 @@ module _ (net : Network) (doc : Document) (list : List edits.Edit) (price bound 
   block_ends flags number [] (Err fault) rest is h = absurd is
   block_ends flags number (line ∷ ls) last rest is h = h
 
-  -- nor is the first line after the edits
+  -- the first line after the edits is not an edit
   ended : (flags : List Bool) (number : ℕ) (vs : List verdicts.Verdict) (told : List Told) →
-      IsEditsOutcome net doc list price bound flags number (blocks_answers net 0 vs (log_answers told)) o → IsEditsEnd net doc list price bound flags number (blocks_answers net 0 vs (log_answers told)) o
+      IsEditsOutcome net doc list price bound flags number (blocks_answers net 0 vs (log_answers told)) o →
+      IsEditsEnd net doc list price bound flags number (blocks_answers net 0 vs (log_answers told)) o
   ended flags number [] told h = h
   ended flags number (v ∷ vs) told h = block_ends flags number (witness_lines net v) (Ok (Verdict 0 v)) (blocks_answers net 1 vs (log_answers told)) tt h
 

@@ -1,4 +1,4 @@
--- A text is accepted exactly where it is the certificate of a claim.
+-- A text is accepted exactly if it is the certificate of a claim.
 use Rattle.std.proofs.Common.{◌≡◌, ◌≢◌, ℕ, suc, ◌+◌, ◌<◌, ◌≤◌, Bool, true, inl, inr, Option, List, [], ◌∷◌, length, refl, subst, arith}
 use Rattle.std.specs.Prelude.{All, Some}
 use Rattle.std.specs.List.{AllZip}
@@ -37,7 +37,7 @@ use Rattle.repair_check.proofs.BlocksJudged.{AreYes, blocks_exact, right_yeses, 
 use Rattle.repair_check.proofs.EditsChosen.{all_chosen, edits_passed}
 use Rattle.repair_check.proofs.Whole.{head_whole}
 
--- the verdicts of a claim that can be told are one for each policy, each a yes
+-- the verdicts of a claim that can be written are one for each policy, each a yes
 one_each : (net : Network) (policies : List Policy) (vs : List verdicts.Verdict) → AllZip (IsReadable net) policies vs → length vs ≡ length policies
 one_each net [] [] zip = refl
 one_each net [] (v ∷ vs) zip = absurd zip
@@ -55,7 +55,7 @@ module _ (one_after : AfterIsOne) (one_formula : HaveOneFormula) (net : Network)
   priced price bound flags costs affordable few (inr (inl above)) = omega (arith, above, affordable)
   priced price bound flags costs affordable few (inr (inr above)) = omega (arith, above, few)
 
-  -- a log that passes for one repair formula passes for the other
+  -- a log that passes for a repair formula passes for an equal one
   passes_same : (needs : Bool) (bound : ℕ) (least : Option ℕ) (formula other : Formula) (tops others : List Lit) (told : List Told) → (formula ≡ other) × (tops ≡ others) →
       Passes needs (start formula least tops) (steps_told told) → Passes needs (start other least others) (steps_told told)
   passes_same needs bound least formula other tops others told same p =
@@ -107,12 +107,14 @@ module _ (one_after : AfterIsOne) (one_formula : HaveOneFormula) (net : Network)
     ended number (inl wrong) = (λ e. absurd (never o 2 kinds.Price wrong.1 e), λ p. absurd (priced price bound chosen p.right.costs p.right.affordable p.right.few wrong.0))
     ended number (inr a) = opened number a
 
-    repaired_exact : (number : ℕ) → IsEditsOutcome net doc list price bound (none_of list) number (edits_answers (chosen_from 0 chosen) (blocks_answers net 0 vs (log_answers told))) o → AcceptsIf o Certified
+    repaired_exact : (number : ℕ) →
+        IsEditsOutcome net doc list price bound (none_of list) number (edits_answers (chosen_from 0 chosen) (blocks_answers net 0 vs (log_answers told))) o → AcceptsIf o Certified
     repaired_exact number h =
         let end = edits_passed net doc list price bound o (chosen_from 0 chosen) (none_of list) number vs told h in
         ended end.0 (subst (λ (flags : List Bool). IsEditsEnd net doc list price bound flags end.0 (blocks_answers net 0 vs (log_answers told)) o) (all_chosen chosen list each) end.1)
 
-  none_exact : (bound number : ℕ) (told : List Told) (o : Outcome) → AfterNone net doc list bound number (log_answers told) o → AcceptsIf o (IsCertificate net doc list (claims.NoRepair bound) (steps_told told))
+  none_exact : (bound number : ℕ) (told : List Told) (o : Outcome) → AfterNone net doc list bound number (log_answers told) o →
+      AcceptsIf o (IsCertificate net doc list (claims.NoRepair bound) (steps_told told))
   none_exact bound number told o a =
       let known : Knowledge = start a.formula (Some bound) a.tops in
       let log = log_exact true known (number + 1) told o a.outcome in (
@@ -122,10 +124,12 @@ module _ (one_after : AfterIsOne) (one_formula : HaveOneFormula) (net : Network)
         λ p.
             let formulas = one_formula net doc list bound p.shown.formula a.formula p.shown.tops a.tops valid p.shown.is_formula a.is_formula in
             log.1
-            (passes_same true bound (Some bound) p.shown.formula a.formula p.shown.tops a.tops told formulas (shows_passes true (start p.shown.formula (Some bound) p.shown.tops) (steps_told told) refl p.shown.accepted p.shown.refuting)),
+            (passes_same true bound (Some bound) p.shown.formula a.formula p.shown.tops a.tops told formulas
+            (shows_passes true (start p.shown.formula (Some bound) p.shown.tops) (steps_told told) refl p.shown.accepted p.shown.refuting)),
       )
 
-  claim_exact : (claim : Claim) (told : List Told) (o : Outcome) → IsToldClaim net doc list claim → IsHeadOutcome net doc list 1 (certificate_answers net claim told) o → AcceptsIf o (IsCertificate net doc list claim (steps_told told))
+  claim_exact : (claim : Claim) (told : List Told) (o : Outcome) → IsToldClaim net doc list claim →
+      IsHeadOutcome net doc list 1 (certificate_answers net claim told) o → AcceptsIf o (IsCertificate net doc list claim (steps_told told))
   claim_exact (claims.Repaired price bound chosen vs) told o is h = repaired_exact price bound chosen vs told o is.2 is.3 is.4 3 h
   claim_exact (claims.NoRepair bound) told o is (inl wrong) = (λ e. absurd (never o 2 kinds.Price wrong.1 e), λ p. absurd (beyond p.right))
     where

@@ -1,4 +1,4 @@
--- What a line that comes to a judge leads to, and what the end of the text.
+-- What a line leads to that a judge takes, and what the end of the text does.
 use Rattle.std.proofs.Common.{◌≡◌, ℕ, ◌+◌, List, [], ◌∷◌, refl, sym, ap, subst}
 use Rattle.std.specs.Prelude.{Result}
 use Rattle.net_model.specs.declared.policies.Document.{Document}
@@ -17,7 +17,7 @@ use Rattle.repair_check.specs.declared.phases.Next.TheVariants.{Line, Done}
 use Rattle.repair_check.specs.declared.phases.Phase.{Phase}
 use Rattle.repair_check.specs.Certifies.{IsCountFault, text_answers}
 use Rattle.repair_check.specs.LineByLine.{HasComeTo, Judges}
-use Rattle.repair_check.specs.Outcomes.{Answers}
+use Rattle.repair_check.specs.Outcomes.{ReaderAnswers}
 use Rattle.repair_check.specs.Phases.{Goes, IsAt, IsFaultAt, IsPhaseOutcome, LeadsTo, Settles}
 use Rattle.repair_check.proofs.Counted.{ends_counted}
 
@@ -26,15 +26,17 @@ module _ (net : Network) (doc : Document) (list : List Edit) (text : List ℕ) w
   pub ended : (judge : RepairJudge) (o : Outcome) → HasComeTo net doc list text [] judge → IsPhaseOutcome net doc list judge.phase judge.number [] o → Judges net doc list text o
   ended judge o come is = record { outcome = come.outcome o is; counted = ends_counted net doc list judge.phase (text_answers net doc list text) come.at }
 
-  module _ (judge : RepairJudge) (line : List ℕ) (rest : List (List ℕ)) (told : Result Got CertFault) (reads : told ≡ (step net doc list (standing judge.reader) line).1) (come : HasComeTo net doc list text (line ∷ rest) judge) where
-    -- the answers to the lines behind it
-    abbrev behind : Answers
+  module _ (judge : RepairJudge) (line : List ℕ) (rest : List (List ℕ)) (told : Result Got CertFault) (reads : told ≡ (step net doc list (standing judge.reader) line).1)
+      (come : HasComeTo net doc list text (line ∷ rest) judge) where
+    -- the answers to the lines after it
+    abbrev behind : ReaderAnswers
     behind = answers net doc list (step net doc list (standing judge.reader) line).0 rest
 
     here : IsAt net doc list (text_answers net doc list text) judge.phase (told ∷ behind)
     here = subst (λ (t : Result Got CertFault). IsAt net doc list (text_answers net doc list text) judge.phase (t ∷ behind)) (sym reads) come.at
 
-    leads : (o : Outcome) → IsPhaseOutcome net doc list judge.phase judge.number (told ∷ behind) o → IsPhaseOutcome net doc list judge.phase judge.number ((step net doc list (standing judge.reader) line).1 ∷ behind) o
+    leads : (o : Outcome) → IsPhaseOutcome net doc list judge.phase judge.number (told ∷ behind) o →
+        IsPhaseOutcome net doc list judge.phase judge.number ((step net doc list (standing judge.reader) line).1 ∷ behind) o
     leads o h = subst (λ (t : Result Got CertFault). IsPhaseOutcome net doc list judge.phase judge.number (t ∷ behind) o) reads h
 
     gone_on : (next : RepairJudge) → standing next.reader ≡ (step net doc list (standing judge.reader) line).0 → next.number ≡ judge.number + 1 →
@@ -43,17 +45,18 @@ module _ (net : Network) (doc : Document) (list : List Edit) (text : List ℕ) w
         let same : answers net doc list (standing next.reader) rest ≡ behind = ap (λ (s : Standing). answers net doc list s rest) stands in
         record {
           outcome = λ o h. come.outcome o (leads o (goes.outcome behind o
-              (subst (λ (n : ℕ). IsPhaseOutcome net doc list next.phase n behind o) number (subst (λ (a : Answers). IsPhaseOutcome net doc list next.phase next.number a o) same h))));
-          at = subst (λ (a : Answers). IsAt net doc list (text_answers net doc list text) next.phase a) (sym same) (goes.at (text_answers net doc list text) behind here);
+              (subst (λ (n : ℕ). IsPhaseOutcome net doc list next.phase n behind o) number (subst (λ (a : ReaderAnswers). IsPhaseOutcome net doc list next.phase next.number a o) same h))));
+          at = subst (λ (a : ReaderAnswers). IsAt net doc list (text_answers net doc list text) next.phase a) (sym same) (goes.at (text_answers net doc list text) behind here);
         }
 
     -- another line may come
-    pub line_came : (next : Next) (phase : Phase) → next ≡ Line phase → LeadsTo net doc list judge.phase judge.number told next → (reader : Reader) → standing reader ≡ (step net doc list (standing judge.reader) line).0 →
+    pub line_came : (next : Next) (phase : Phase) → next ≡ Line phase → LeadsTo net doc list judge.phase judge.number told next → (reader : Reader) →
+        standing reader ≡ (step net doc list (standing judge.reader) line).0 →
         HasComeTo net doc list text rest (record { reader = reader; phase = phase; number = judge.number + 1 })
     line_came next phase is there reader stands =
         gone_on (record { reader = reader; phase = phase; number = judge.number + 1 }) stands refl (subst (LeadsTo net doc list judge.phase judge.number told) is there)
 
-    -- the line settles the outcome
+    -- the line decides the outcome
     pub settled : (next : Next) (o : Outcome) → next ≡ Done o → LeadsTo net doc list judge.phase judge.number told next → Judges net doc list text o
     settled next o is there =
         let settles : Settles net doc list judge.phase judge.number told o = subst (LeadsTo net doc list judge.phase judge.number told) is there in
@@ -62,6 +65,6 @@ module _ (net : Network) (doc : Document) (list : List Edit) (text : List ℕ) w
           counted = settles.at (text_answers net doc list text) behind here;
         }
 
-    -- the formula passes a limit
+    -- the formula exceeds a limit
     pub stopped : (fault : EditFault) → IsFaultAt net doc list judge.phase told fault → IsCountFault net doc list (text_answers net doc list text) fault
     stopped fault there = there (text_answers net doc list text) behind here

@@ -22,25 +22,27 @@ use Rattle.repair_check.specs.declared.phases.Next.TheVariants.{Line, Done}
 use Rattle.repair_check.specs.declared.phases.Phase.{Phase}
 use Rattle.repair_check.specs.declared.phases.Phase.TheVariants as phases
 use Rattle.repair_check.specs.declared.phases.RepairClaim.{RepairClaim}
-use Rattle.repair_check.specs.Outcomes.{Answers, IsBlocksOutcome, IsEditsEnd, IsEditsOutcome, rejected}
+use Rattle.repair_check.specs.Outcomes.{ReaderAnswers, IsBlocksOutcome, IsEditsEnd, IsEditsOutcome, rejected}
 use Rattle.repair_check.specs.Phases.{EndsEdits, IsBlocksLeft, IsMispricedClaim, IsOpened, LeadsTo}
 
 module _ (net : Network) (doc : Document) (list : List edits.Edit) where
-  -- the same phase, line and outcome
-  pub told_so : (phase : Phase) (number : ℕ) (told other : Result Got CertFault) (next : Next) → told ≡ other → LeadsTo net doc list phase number other next → LeadsTo net doc list phase number told next
+  -- what an equal answer leads to
+  pub told_so : (phase : Phase) (number : ℕ) (told other : Result Got CertFault) (next : Next) → told ≡ other → LeadsTo net doc list phase number other next →
+      LeadsTo net doc list phase number told next
   told_so phase number told other next e h = subst (λ (t : Result Got CertFault). LeadsTo net doc list phase number t next) (sym e) h
 
-  pub phase_so : (phase other : Phase) (number : ℕ) (told : Result Got CertFault) (next : Next) → phase ≡ other → LeadsTo net doc list other number told next → LeadsTo net doc list phase number told next
+  pub phase_so : (phase other : Phase) (number : ℕ) (told : Result Got CertFault) (next : Next) → phase ≡ other → LeadsTo net doc list other number told next →
+      LeadsTo net doc list phase number told next
   phase_so phase other number told next e h = subst (λ (p : Phase). LeadsTo net doc list p number told next) (sym e) h
 
-  -- a verdict that is not right
+  -- a verdict that is not right leads to a rejection
   pub wrong_leads : (blocks : Blocks) (number which : ℕ) (v : verdicts.Verdict) (next : Next) → next ≡ Done (rejected blocks.first kinds.Witness) → (IsRightAt blocks.now doc.policies which v → ⊥) →
       LeadsTo net doc list (phases.Blocks blocks) number (Ok (Verdict which v)) next
   wrong_leads blocks number which v next e wrong =
       subst (LeadsTo net doc list (phases.Blocks blocks) number (Ok (Verdict which v))) (sym e) (record { outcome = λ rest. inr (wrong, refl); at = λ all rest h. h })
 
-  -- a line that is none of an edit is judged where the edits have ended
-  ends_there : (price bound : ℕ) (flags : List Bool) (number : ℕ) (told : Result Got CertFault) (rest : Answers) (o : Outcome) → EndsEdits told →
+  -- a line that is not an edit is judged once the edits have ended
+  ends_there : (price bound : ℕ) (flags : List Bool) (number : ℕ) (told : Result Got CertFault) (rest : ReaderAnswers) (o : Outcome) → EndsEdits told →
       IsEditsEnd net doc list price bound flags number (told ∷ rest) o → IsEditsOutcome net doc list price bound flags number (told ∷ rest) o
   ends_there price bound flags number (Ok (Edit place)) rest o ends h = absurd ends
   ends_there price bound flags number (Ok More) rest o ends h = h
@@ -52,21 +54,24 @@ module _ (net : Network) (doc : Document) (list : List edits.Edit) where
       subst (λ (b : Bool). MatchBool b (o ≡ Rejected fault) (IsEditsEnd net doc list price bound flags number (Err fault ∷ rest) o)) (sym ends) h
 
   module _ (claim : RepairClaim) (number : ℕ) (told : Result Got CertFault) (ends : EndsEdits told) where
-    -- the price is wrong
+    -- a wrong price leads to a rejection
     pub mispriced_leads : (next : Next) → next ≡ Done (rejected 2 kinds.Price) → IsMispricedClaim doc list claim → LeadsTo net doc list (phases.Edits claim) number told next
     mispriced_leads next e wrong =
         subst (LeadsTo net doc list (phases.Edits claim) number told) (sym e)
         (record { outcome = λ rest. ends_there claim.price claim.bound claim.chosen.items number told rest (rejected 2 kinds.Price) ends (inl (wrong, refl)); at = λ all rest h. h })
 
-    -- the price is right, and the line is judged behind the edits
+    -- if the price is right, the line is judged after the edits
     module _ (blocks : Blocks) (opened : IsOpened net doc list claim number blocks) where
-      after_edits : (rest : Answers) (o : Outcome) → IsBlocksLeft doc blocks number (told ∷ rest) o → IsEditsOutcome net doc list claim.price claim.bound claim.chosen.items number (told ∷ rest) o
+      after_edits : (rest : ReaderAnswers) (o : Outcome) → IsBlocksLeft doc blocks number (told ∷ rest) o →
+          IsEditsOutcome net doc list claim.price claim.bound claim.chosen.items number (told ∷ rest) o
       after_edits rest o h =
           let knows : known blocks.checker ≡ start opened.ready.formula (least_below claim.price) opened.ready.tops = opened.ready.knows in
           let one = subst (λ (n : Bool). IsBlocksOutcome blocks.now doc.policies n (known blocks.checker) blocks.judged blocks.first number (told ∷ rest) o) opened.needs h in
           let two = subst (λ (k : Knowledge). IsBlocksOutcome blocks.now doc.policies (is_above_zero claim.price) k blocks.judged blocks.first number (told ∷ rest) o) knows one in
-          let three = subst (λ (j : ℕ). IsBlocksOutcome blocks.now doc.policies (is_above_zero claim.price) (start opened.ready.formula (least_below claim.price) opened.ready.tops) j blocks.first number (told ∷ rest) o) opened.judged two in
-          let four = subst (λ (f : ℕ). IsBlocksOutcome blocks.now doc.policies (is_above_zero claim.price) (start opened.ready.formula (least_below claim.price) opened.ready.tops) 0 f number (told ∷ rest) o) opened.first three in
+          let three = subst (λ (j : ℕ). IsBlocksOutcome blocks.now doc.policies (is_above_zero claim.price)
+          (start opened.ready.formula (least_below claim.price) opened.ready.tops) j blocks.first number (told ∷ rest) o) opened.judged two in
+          let four = subst (λ (f : ℕ). IsBlocksOutcome blocks.now doc.policies (is_above_zero claim.price)
+          (start opened.ready.formula (least_below claim.price) opened.ready.tops) 0 f number (told ∷ rest) o) opened.first three in
           ends_there claim.price claim.bound claim.chosen.items number told rest o ends
           (inr (record {
             priced = opened.priced;

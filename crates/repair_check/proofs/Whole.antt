@@ -1,4 +1,4 @@
--- What is accepted is taken whole: each line, the first one as the head of a repair and the last one as the end.
+-- An accepted text is read as a whole: each line, the first one as the head of a repair and the last one as the end.
 use Rattle.std.proofs.Common.{◌≡◌, ℕ, ◌+◌, ◌==◌, ◌||◌, Bool, true, false, not, inl, inr, List, [], ◌∷◌, length, set}
 use Rattle.std.specs.Prelude.{MatchBool, MatchOption, Option, Some, None, Ok, Err}
 use Rattle.arc_base.specs.declared.certificate.CertKind.TheVariants as kinds
@@ -15,13 +15,13 @@ use Rattle.policy_report.specs.declared.got.CertFault.{CertFault}
 use Rattle.policy_report.specs.Recertifying.{IsWholeRepair}
 use Rattle.policy_report.specs.Rereading.{IsWhole}
 use Rattle.report_check.specs.declared.outcome.Outcome.TheVariants.{Accepted, Rejected}
-use Rattle.repair_check.specs.Outcomes.{Answers, IsAnswerOutcome, IsBlocksOutcome, IsEditsEnd, IsEditsOutcome, IsEnded, IsHeadOutcome, IsLogOutcome, IsReadyOutcome, is_edit_kind, rejected}
+use Rattle.repair_check.specs.Outcomes.{ReaderAnswers, IsAnswerOutcome, IsBlocksOutcome, IsEditsEnd, IsEditsOutcome, IsEndOutcome, IsHeadOutcome, IsLogOutcome, IsReadyOutcome, is_edit_kind, rejected}
 use Rattle.proof_check.specs.Outcomes.{fault_kind}
 
 not_accepted : (fault : CertFault) → Accepted ≡ Rejected fault → ⊥
 not_accepted fault e = absurd (cc)
 
-end_whole : (agrees : Bool) (number : ℕ) (rest : Answers) → MatchBool agrees (IsEnded (number + 1) rest Accepted) (Accepted ≡ rejected number kinds.NotRefuted) → IsWhole (Ok End ∷ rest)
+end_whole : (agrees : Bool) (number : ℕ) (rest : ReaderAnswers) → MatchBool agrees (IsEndOutcome (number + 1) rest Accepted) (Accepted ≡ rejected number kinds.NotRefuted) → IsWhole (Ok End ∷ rest)
 end_whole true number [] h = tt
 end_whole true number (told ∷ rest) h = absurd (not_accepted (record { line = number + 1; kind = kinds.NoEnd }) h)
 end_whole false number rest h = absurd (not_accepted (record { line = number; kind = kinds.NotRefuted }) h)
@@ -30,7 +30,7 @@ step_whole : (fault : Option StepFault) (number : ℕ) (P : Type 0) → MatchOpt
 step_whole None number P h = h
 step_whole (Some f) number P h = absurd (not_accepted (record { line = number; kind = fault_kind f }) h)
 
-log_whole : (needs : Bool) (known : Knowledge) (number : ℕ) (told : Answers) → IsLogOutcome needs known number told Accepted → IsWhole told
+log_whole : (needs : Bool) (known : Knowledge) (number : ℕ) (told : ReaderAnswers) → IsLogOutcome needs known number told Accepted → IsWhole told
 log_whole needs known number [] h = absurd (cc)
 log_whole needs known number (Err fault ∷ rest) h = absurd (cc)
 log_whole needs known number (Ok More ∷ rest) h = log_whole needs known (number + 1) rest h
@@ -41,7 +41,7 @@ log_whole needs known number (Ok (Head form) ∷ rest) h = absurd (cc)
 log_whole needs known number (Ok (Verdict which v) ∷ rest) h = absurd (cc)
 log_whole needs known number (Ok (Edit place) ∷ rest) h = absurd (cc)
 
-ready_whole : (known : Knowledge) (number : ℕ) (told : Answers) → IsReadyOutcome known number told Accepted → IsWhole told
+ready_whole : (known : Knowledge) (number : ℕ) (told : ReaderAnswers) → IsReadyOutcome known number told Accepted → IsWhole told
 ready_whole known number [] h = absurd (cc)
 ready_whole known number (Err fault ∷ rest) h = absurd (cc)
 ready_whole known number (Ok More ∷ rest) h = log_whole true known (number + 1) rest h
@@ -55,7 +55,7 @@ either : (b : Bool) (P Q R : Type 0) → (P → R) → (Q → R) → MatchBool b
 either true P Q R f g h = f h
 either false P Q R f g h = g h
 
-blocks_whole : (now : Network) (policies : List Policy) (needs : Bool) (known : Knowledge) (judged first number : ℕ) (told : Answers) →
+blocks_whole : (now : Network) (policies : List Policy) (needs : Bool) (known : Knowledge) (judged first number : ℕ) (told : ReaderAnswers) →
     IsBlocksOutcome now policies needs known judged first number told Accepted → IsWhole told
 blocks_whole now policies needs known judged first number [] h = absurd (cc)
 blocks_whole now policies needs known judged first number (Err fault ∷ rest) h = absurd (cc)
@@ -73,11 +73,11 @@ blocks_whole now policies needs known judged first number (Ok (Step s) ∷ rest)
 blocks_whole now policies needs known judged first number (Ok End ∷ rest) h = absurd (cc)
 
 module _ (net : Network) (doc : Document) (list : List edits.Edit) (price bound : ℕ) where
-  ends_whole : (flags : List Bool) (number : ℕ) (told : Answers) → IsEditsEnd net doc list price bound flags number told Accepted → IsWhole told
+  ends_whole : (flags : List Bool) (number : ℕ) (told : ReaderAnswers) → IsEditsEnd net doc list price bound flags number told Accepted → IsWhole told
   ends_whole flags number told (inl wrong) = absurd (not_accepted (record { line = 2; kind = kinds.Price }) wrong.1)
   ends_whole flags number told (inr a) = blocks_whole a.now doc.policies _ _ 0 number number told a.outcome
 
-  edits_whole : (flags : List Bool) (number : ℕ) (told : Answers) → IsEditsOutcome net doc list price bound flags number told Accepted → IsWhole told
+  edits_whole : (flags : List Bool) (number : ℕ) (told : ReaderAnswers) → IsEditsOutcome net doc list price bound flags number told Accepted → IsWhole told
   edits_whole flags number [] h = ends_whole flags number [] h
   edits_whole flags number (Err fault ∷ rest) h =
       either (is_edit_kind fault.kind) (Accepted ≡ Rejected fault) (IsEditsEnd net doc list price bound flags number (Err fault ∷ rest) Accepted) (IsWhole (Err fault ∷ rest))
@@ -90,7 +90,7 @@ module _ (net : Network) (doc : Document) (list : List edits.Edit) (price bound 
   edits_whole flags number (Ok End ∷ rest) h = ends_whole flags number (Ok End ∷ rest) h
 
 module _ (net : Network) (doc : Document) (list : List edits.Edit) where
-  answer_whole : (number : ℕ) (told : Answers) → IsAnswerOutcome net doc list number told Accepted → IsWhole told
+  answer_whole : (number : ℕ) (told : ReaderAnswers) → IsAnswerOutcome net doc list number told Accepted → IsWhole told
   answer_whole number [] h = absurd (cc)
   answer_whole number (Err fault ∷ rest) h = absurd (cc)
   answer_whole number (Ok (Head Report) ∷ rest) h = absurd (cc)
@@ -103,7 +103,7 @@ module _ (net : Network) (doc : Document) (list : List edits.Edit) where
   answer_whole number (Ok (Step s) ∷ rest) h = absurd (cc)
   answer_whole number (Ok End ∷ rest) h = absurd (cc)
 
-  pub head_whole : (number : ℕ) (told : Answers) → IsHeadOutcome net doc list number told Accepted → IsWholeRepair told
+  pub head_whole : (number : ℕ) (told : ReaderAnswers) → IsHeadOutcome net doc list number told Accepted → IsWholeRepair told
   head_whole number [] h = absurd (cc)
   head_whole number (Err fault ∷ rest) h = absurd (cc)
   head_whole number (Ok More ∷ rest) h = answer_whole (number + 1) rest h

@@ -1,4 +1,4 @@
--- What is written for a claim and a log that shows it is a certificate of the claim.
+-- The text that is written for a claim, with a log that shows it, is a certificate of the claim.
 use Rattle.std.proofs.Common.{◌≡◌, ◌∙◌, ℕ, ◌<◌, List, [], ◌∷◌, length, map, ap, refl, sym, subst, arith}
 use Rattle.std.specs.Prelude.{All, IsTrue, Some}
 use Rattle.std.specs.List.{AllZip}
@@ -24,13 +24,13 @@ use Rattle.edit_list.specs.declared.claims.Claim.TheVariants.{Repaired, NoRepair
 use Rattle.edit_list.specs.declared.edit_kinds.Edit as edits
 use Rattle.proof_log.specs.declared.steps.Step.{Step}
 use Rattle.policy_report.specs.Recertifying.{CertificatesAreWritten, IsToldClaim, IsYes}
-use Rattle.policy_report.specs.Rereading.{AreLinks, IsAnswer, IsReadable, IsTold}
+use Rattle.policy_report.specs.Rereading.{AreLinks, MayHaveVerdict, IsReadable, CanBeWritten}
 use Rattle.arc_repair.specs.Answers.{ClaimsFew, ShowsFew}
 use Rattle.arc_repair.specs.Claims.{IsCertificate, IsRightClaim, IsRightYes}
 use Rattle.repair_check.specs.Certifies.{WrittenClaimsAreCertified}
 use Rattle.repair_check.proofs.Logs.{steps_told}
 
--- the links of a path are the network's
+-- the links of a path are links of the network
 path_links : (net : Network) (to : _) (u v : ℕ) (arcs : List Arc) → Path net to u arcs v → AreLinks net (links_of arcs)
 path_links net to u v [] is = All-nil (λ l. l.0 < length net.links)
 path_links net to u v (arc ∷ arcs) is =
@@ -39,8 +39,9 @@ path_links net to u v (arc ∷ arcs) is =
 links_told : (net : Network) (ends : Ends) (path : LinkPath) → IsPath net ends path → AreLinks net path.links
 links_told net ends path is = subst (AreLinks net) is.links (path_links net ends.to _ _ is.arcs is.leads)
 
--- a right yes that shows few can be told, and is an answer to what the policy asks
-yes_told : (net : Network) (ends : Ends) (kind : PolicyKind) (whole : Class) (v : verdicts.Verdict) → IsTrue (is_yes v) → IsRightFor net ends kind whole v → ShowsFew v → IsAnswer kind v × IsTold net v
+-- a right yes that shows few sides or paths can be written, and is an answer to what the policy asks
+yes_told : (net : Network) (ends : Ends) (kind : PolicyKind) (whole : Class) (v : verdicts.Verdict) → IsTrue (is_yes v) → IsRightFor net ends kind whole v →
+    ShowsFew v → MayHaveVerdict kind v × CanBeWritten net v
 yes_told net ends Blocked whole (Closed sides) positive right few =
     (tt, (All-weaker (IsRightSide net ends Blocked whole) (λ s. length s.side ≡ length net.routers) (λ s side. side.closed.flags) sides right.right, omega (arith, few)))
 yes_told net ends Through whole (Closed sides) positive right few =
@@ -63,12 +64,12 @@ yes_of (Denied class) positive = absurd (false≢true positive)
 yes_of (Cut links side) positive = absurd (false≢true positive)
 yes_of (Refused packet link) positive = absurd (false≢true positive)
 
--- the network after edits has as many links and routers, so what is told of the one is told of the other
+-- the network after edits has as many links and routers, so what can be written for the one can be written for the other
 module _ (net after : Network) (links : length after.links ≡ length net.links) (routers : length after.routers ≡ length net.routers) where
   are_links : (ls : List Link) → AreLinks after ls → AreLinks net ls
   are_links ls are = All-weaker (λ l. l.0 < length after.links) (λ l. l.0 < length net.links) (λ l below. omega (arith, below, links)) ls are
 
-  told_there : (v : verdicts.Verdict) → IsTrue (is_yes v) → IsTold after v → IsTold net v
+  told_there : (v : verdicts.Verdict) → IsTrue (is_yes v) → CanBeWritten after v → CanBeWritten net v
   told_there (Closed sides) positive told = (All-weaker (λ s. length s.side ≡ length after.routers) (λ s. length s.side ≡ length net.routers) (λ s each. each ∙ routers) sides told.0, told.1)
   told_there (Paths paths) positive told = (All-weaker (λ p. AreLinks after p.links) (λ p. AreLinks net p.links) (λ p are. are_links p.links are) paths told.0, told.1)
   told_there (Walk class path) positive told = absurd (false≢true positive)
@@ -92,7 +93,7 @@ all_yes after [] (v ∷ vs) right = absurd right
 all_yes after (policy ∷ policies) [] right = absurd right
 all_yes after (policy ∷ policies) (v ∷ vs) right = All-cons IsYes v vs (yes_of v right.0.yes) (all_yes after policies vs right.1)
 
--- a right claim whose verdicts show few can be told
+-- a right claim whose verdicts show few sides or paths can be written
 can_be_told : (net : Network) (doc : Document) (list : List edits.Edit) (claim : Claim) → IsRightClaim net doc list claim → ClaimsFew claim → IsToldClaim net doc list claim
 can_be_told net doc list (Repaired price bound flags vs) right few = (
   omega (arith, right.affordable, right.few),
@@ -103,7 +104,7 @@ can_be_told net doc list (Repaired price bound flags vs) right few = (
 )
 can_be_told net doc list (NoRepair bound) right few = omega (arith, right)
 
--- the steps of lines of which each tells one
+-- the steps of lines that each have one
 all_steps : (steps : List Step) → steps_told (map Some steps) ≡ steps
 all_steps [] = refl
 all_steps (s ∷ steps) = ap (λ (l : List Step). s ∷ l) (all_steps steps)

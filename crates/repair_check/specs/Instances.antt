@@ -11,12 +11,13 @@ use Rattle.edit_list.specs.declared.edit_kinds.Edit.{Edit}
 use Rattle.edit_list.specs.EditLists.{AreEdits, DocumentHasFewClasses}
 
 -- verdicts on the policies can be judged in the network: it is valid, and has the ends of each
+-- policy
 pub record IsJudgeable (doc : Document) (net : Network) : Type 0 where
   pub valid : IsValid net
   pub ends : All (λ policy. HasEnds net (subject policy)) doc.policies
 
 -- an instance of the repair problem: verdicts can be judged in the network, the document is within
--- its limits, and the list has all the edits and is within its own
+-- its limits, and the list has all edits of the network, within the limit on edits
 pub record IsInstance (net : Network) (doc : Document) (list : List Edit) : Type 0 where
   pub judgeable : IsJudgeable doc net
   pub policies : length doc.policies ≤ POLICY_LIMIT

@@ -8,19 +8,19 @@ use Rattle.policy_report.specs.Steps.{standing}
 use Rattle.report_check.specs.declared.outcome.Outcome.{Outcome}
 use Rattle.repair_check.specs.declared.judge.RepairJudge.{RepairJudge}
 use Rattle.repair_check.specs.Certifies.{IsCounted, text_answers}
-use Rattle.repair_check.specs.Outcomes.{Answers, IsRepairOutcome}
+use Rattle.repair_check.specs.Outcomes.{ReaderAnswers, IsRepairOutcome}
 use Rattle.repair_check.specs.Phases.{IsAt, IsGoing, IsPhaseOutcome}
 
 -- another line may come to the judge
 abbrev pub CanGoOn : Network → Document → List Edit → RepairJudge → Type 0
 CanGoOn net doc list judge = IsGoing net doc list judge.phase
 
--- what its reader answers to these lines
-abbrev pub answers_to : Network → Document → List Edit → RepairJudge → List (List ℕ) → Answers
+-- the answers of the judge's reader to these lines
+abbrev pub answers_to : Network → Document → List Edit → RepairJudge → List (List ℕ) → ReaderAnswers
 answers_to net doc list judge ls = answers net doc list (standing judge.reader) ls
 
--- The lines of the text came to the judge up to these: what these lead to is what the whole text is
--- judged to, and where they lie in it is known.
+-- The judge has taken the lines of the text up to these: the outcome of these is that of the whole
+-- text, and their place in it is known.
 pub record HasComeTo (net : Network) (doc : Document) (list : List Edit) (text : List ℕ)
     (ls : List (List ℕ)) (judge : RepairJudge) : Type 0 where
   pub outcome : (o : Outcome) →
@@ -29,7 +29,7 @@ pub record HasComeTo (net : Network) (doc : Document) (list : List Edit) (text :
   pub at : IsAt net doc list (text_answers net doc list text) judge.phase
       (answers_to net doc list judge ls)
 
--- this is what the text is judged to, and the formula of its answer's bound is within its limits
+-- this is the outcome of the text, and the formula for the bound of its answer is within its limits
 pub record Judges (net : Network) (doc : Document) (list : List Edit) (text : List ℕ)
     (o : Outcome) : Type 0 where
   pub outcome : IsRepairOutcome net doc list text o

@@ -1,4 +1,4 @@
--- The judgement line by line: what the lines so far leave to be judged.
+-- Judging line by line: what the lines so far leave to be judged.
 use Rattle.std.specs.Prelude.{◌≡◌, ℕ, ◌+◌, ◌<◌, ◌≤◌, Option, List, ◌∷◌}
 use Rattle.std.specs.Prelude.{length, MatchOption, Result, Ok, Err, IsFalse}
 use Rattle.arc_base.specs.declared.limits.TheConstants.{PRICE_LIMIT}
@@ -29,9 +29,9 @@ use Rattle.repair_check.specs.declared.phases.Phase.TheVariants as phases
 use Rattle.repair_check.specs.declared.phases.RepairClaim.{RepairClaim}
 use Rattle.repair_check.specs.Certifies.{IsCounted, IsCountFault}
 use Rattle.repair_check.specs.Instances.{IsJudgeable}
-use Rattle.repair_check.specs.Outcomes.{Answers, is_edit_kind, IsHeadOutcome, IsAnswerOutcome}
+use Rattle.repair_check.specs.Outcomes.{ReaderAnswers, is_edit_kind, IsHeadOutcome, IsAnswerOutcome}
 use Rattle.repair_check.specs.Outcomes.{IsEditsOutcome, IsBlocksOutcome, IsReadyOutcome}
-use Rattle.repair_check.specs.Outcomes.{IsLogOutcome, IsEnded}
+use Rattle.repair_check.specs.Outcomes.{IsLogOutcome, IsEndOutcome}
 
 -- the checker is before the first step of a log, for the repair formula of this bound and this
 -- least bound of the log
@@ -43,8 +43,8 @@ pub record IsReady (net : Network) (doc : Document) (list : List Edit) (bound : 
   pub is_formula : IsRepairFormula net doc list bound formula tops
   pub knows : known checker ≡ start formula least tops
 
--- the checker is ready for the log of a repair of this price, or there is none where the bound
--- passes PRICE_LIMIT
+-- the checker is ready for the log of a repair of this price, or there is none since the bound
+-- exceeds PRICE_LIMIT
 abbrev pub IsReadyWithin : Network → Document → List Edit → ℕ → ℕ → Option Checker → Type 0
 IsReadyWithin net doc list price bound log =
     MatchOption log (PRICE_LIMIT < bound) (IsReady net doc list bound (least_below price))
@@ -55,12 +55,12 @@ pub record IsClaimed (net : Network) (doc : Document) (list : List Edit)
   pub flags : length claim.chosen.items ≡ length list
   pub ready : IsReadyWithin net doc list claim.price claim.bound claim.log
 
--- what is claimed of the price of the edits that are chosen is wrong
+-- what the claim says of the price of the chosen edits is wrong
 abbrev pub IsMispricedClaim : Document → List Edit → RepairClaim → Type 0
 IsMispricedClaim doc list claim = IsMispriced doc list claim.price claim.bound claim.chosen.items
 
--- what is judged after the edits: the network after them, in which no policy is judged yet, and the
--- checker before the log
+-- the state once the edits are read: the network after them, no policy judged yet, and the checker
+-- before its log
 pub record IsOpened (net : Network) (doc : Document) (list : List Edit) (claim : RepairClaim)
     (number : ℕ) (blocks : Blocks) : Type 0 where
   pub priced : ¬ IsMispricedClaim doc list claim
@@ -70,19 +70,20 @@ pub record IsOpened (net : Network) (doc : Document) (list : List Edit) (claim :
   pub judged : blocks.judged ≡ 0
   pub first : blocks.first ≡ number
 
--- the phase holds together
+-- what the phase holds fits the network, the document and the edits
 abbrev pub IsGoing : Network → Document → List Edit → Phase → Type 0
 IsGoing net doc list (phases.Edits claim) = IsClaimed net doc list claim
 IsGoing net doc list (phases.Blocks blocks) = IsJudgeable doc blocks.now
 IsGoing net doc list other = Unit {0}
 
--- the outcome by the lines that are left of the blocks, and those after them
-abbrev pub IsBlocksLeft : Document → Blocks → ℕ → Answers → Outcome → Type 0
+-- the outcome, given the answers to the lines of the blocks that are left and to those after them
+abbrev pub IsBlocksLeft : Document → Blocks → ℕ → ReaderAnswers → Outcome → Type 0
 IsBlocksLeft doc b number told o =
     IsBlocksOutcome b.now doc.policies b.needs (known b.checker) b.judged b.first number told o
 
--- the outcome by the lines that are left, in this phase
-abbrev pub IsPhaseOutcome : Network → Document → List Edit → Phase → ℕ → Answers → Outcome → Type 0
+-- the outcome, given the answers to the lines that are left in this phase
+abbrev pub IsPhaseOutcome :
+    Network → Document → List Edit → Phase → ℕ → ReaderAnswers → Outcome → Type 0
 IsPhaseOutcome net doc list phases.Head number told o = IsHeadOutcome net doc list number told o
 IsPhaseOutcome net doc list phases.Answer number told o = IsAnswerOutcome net doc list number told o
 IsPhaseOutcome net doc list (phases.Edits claim) number told o =
@@ -93,11 +94,11 @@ IsPhaseOutcome net doc list (phases.Ready checker) number told o =
     IsReadyOutcome (known checker) number told o
 IsPhaseOutcome net doc list (phases.Log needs checker) number told o =
     IsLogOutcome needs (known checker) number told o
-IsPhaseOutcome net doc list phases.Ended number told o = IsEnded number told o
+IsPhaseOutcome net doc list phases.Ended number told o = IsEndOutcome number told o
 
--- how the lines that are left lie in all lines: the head and the answer are the first two, and
--- behind them the formula is counted
-abbrev pub IsAt : Network → Document → List Edit → Answers → Phase → Answers → Type 0
+-- where the lines that are left are among all lines: the head and the answer are the first two, and
+-- after them the formula is counted
+abbrev pub IsAt : Network → Document → List Edit → ReaderAnswers → Phase → ReaderAnswers → Type 0
 IsAt net doc list all phases.Head rest = all ≡ rest
 IsAt net doc list all phases.Answer rest = all ≡ Ok More ∷ rest
 IsAt net doc list all other rest = IsCounted net doc list all
@@ -106,17 +107,17 @@ IsAt net doc list all other rest = IsCounted net doc list all
 pub record Goes (net : Network) (doc : Document) (list : List Edit) (phase : Phase) (number : ℕ)
     (told : Result Got CertFault) (next : Phase) : Type 0 where
   pub going : IsGoing net doc list next
-  pub outcome : (rest : Answers) (o : Outcome) →
+  pub outcome : (rest : ReaderAnswers) (o : Outcome) →
       IsPhaseOutcome net doc list next (number + 1) rest o →
       IsPhaseOutcome net doc list phase number (told ∷ rest) o
-  pub at : (all rest : Answers) → IsAt net doc list all phase (told ∷ rest) →
+  pub at : (all rest : ReaderAnswers) → IsAt net doc list all phase (told ∷ rest) →
       IsAt net doc list all next rest
 
--- the line settles the outcome, whatever follows
+-- the line decides the outcome, whatever follows
 pub record Settles (net : Network) (doc : Document) (list : List Edit) (phase : Phase) (number : ℕ)
     (told : Result Got CertFault) (o : Outcome) : Type 0 where
-  pub outcome : (rest : Answers) → IsPhaseOutcome net doc list phase number (told ∷ rest) o
-  pub at : (all rest : Answers) → IsAt net doc list all phase (told ∷ rest) →
+  pub outcome : (rest : ReaderAnswers) → IsPhaseOutcome net doc list phase number (told ∷ rest) o
+  pub at : (all rest : ReaderAnswers) → IsAt net doc list all phase (told ∷ rest) →
       IsCounted net doc list all
 
 -- what a line leads to
@@ -125,14 +126,14 @@ abbrev pub LeadsTo : Network → Document → List Edit → Phase → ℕ →
 LeadsTo net doc list phase number told (Line next) = Goes net doc list phase number told next
 LeadsTo net doc list phase number told (Done o) = Settles net doc list phase number told o
 
--- a fault comes of counting at the line of the answer only
+-- the fault is one of counting the formula for the bound of the answer, whatever lines follow
 abbrev pub IsFaultAt : Network → Document → List Edit → Phase →
     Result Got CertFault → EditFault → Type 0
 IsFaultAt net doc list phase told fault =
-    (all rest : Answers) → IsAt net doc list all phase (told ∷ rest) →
+    (all rest : ReaderAnswers) → IsAt net doc list all phase (told ∷ rest) →
     IsCountFault net doc list all fault
 
--- the line is none of an edit: it ends the edits
+-- the line is not an edit: it ends the edits
 abbrev pub EndsEdits : Result Got CertFault → Type 0
 EndsEdits (Ok (AnEdit place)) = ⊥
 EndsEdits (Ok got) = Unit {0}

@@ -1,6 +1,6 @@
-//! The addresses of neighbours have 32 bits, which one look at each session shows.
-ghost use Rattle.std.specs.Prelude.{◌<◌, ◌^◌};
+//! That the addresses of neighbours have 32 bits, shown by one pass over the sessions.
 ghost use Rattle.policy_report.specs.Edits.{HasAddresses};
+ghost use Rattle.std.specs.Prelude.{◌<◌, ◌^◌};
 
 use net_model::Network;
 

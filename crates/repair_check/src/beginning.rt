@@ -1,12 +1,12 @@
 //! The lines before the blocks: what they claim, and what is judged once that is known.
-ghost use Rattle.std.specs.Prelude.{◌≡◌, ◌<◌, ◌≤◌, Some, None, List as Items, IfOk};
-ghost use Rattle.std.specs.Prelude.{IfErr, IfSome, OnOk, MatchOption};
-ghost use Rattle.policy_encode.specs.Formulas.{IsFaultOf, IsWithin};
+ghost use Rattle.policy_encode.specs.Formulas.{IsFaultOfFormula, IsWithin};
 ghost use Rattle.price_descent.specs.Outcomes.{least_below};
 ghost use Rattle.repair_check.specs.Instances.{IsInstance, IsJudgeable};
 ghost use Rattle.repair_check.specs.Outcomes.{rejected};
 ghost use Rattle.repair_check.specs.Phases.{IsClaimed, IsFaultAt, IsMispricedClaim, IsOpened};
 ghost use Rattle.repair_check.specs.Phases.{IsReady, LeadsTo};
+ghost use Rattle.std.specs.Prelude.{◌≡◌, ◌<◌, ◌≤◌, Some, None, List as Items, IfOk};
+ghost use Rattle.std.specs.Prelude.{IfErr, IfSome, OnOk, MatchOption};
 
 use crate::phases::{Blocks, Next, Phase, RepairClaim};
 use arc_base::limits::PRICE_LIMIT;
@@ -41,7 +41,7 @@ fn ready(
     requires bound { bound ≤ PRICE_LIMIT }
     ensures ready { IfOk result (IsReady net.now doc.now list.now bound least) }
     ensures limits { OnOk result (IsWithin net.now doc.now list.now bound) }
-    ensures fault { IfErr result (IsFaultOf net.now doc.now list.now bound) }
+    ensures fault { IfErr result (IsFaultOfFormula net.now doc.now list.now bound) }
 {
     let encoded = encode(alloc, net, doc, list, bound)?;
     let checker = Checker::make(alloc, &encoded.formula, least, &encoded.tops)?;
@@ -144,8 +144,8 @@ pub(crate) fn judge_answer(
     }
 }
 
-/// What is judged where the edits end before the line with this number; nothing where their price
-/// is wrong.
+/// What is judged once the edits have ended before the line of this number; `None` if the price is
+/// not theirs or is above the bound, or the bound is above `PRICE_LIMIT`.
 pub(crate) fn end_edits(
     alloc: Global,
     net: &Network,

@@ -1,12 +1,12 @@
-//! The judgement of a text whose lines come one by one.
-ghost use Rattle.std.specs.Prelude.{◌≡◌, ◌+◌, ◌<◌, ◌∷◌, ℕ, [], List as Items, IfOk, IfErr, IfSome};
-ghost use Rattle.std.specs.ControlFlow.{continue_value, MatchControlFlow};
+//! Judging a certificate line by line.
 ghost use Rattle.arc_base.specs.TextLines.{lines};
 ghost use Rattle.policy_report.specs.Steps.{standing, step};
 ghost use Rattle.repair_check.specs.Certifies.{IsCountFault, text_answers};
 ghost use Rattle.repair_check.specs.Instances.{IsInstance, IsJudgeable};
 ghost use Rattle.repair_check.specs.Outcomes.{rejected};
 ghost use Rattle.repair_check.specs.Phases.{IsFaultAt, IsGoing, IsPhaseOutcome, LeadsTo};
+ghost use Rattle.std.specs.ControlFlow.{continue_value, MatchControlFlow};
+ghost use Rattle.std.specs.Prelude.{◌≡◌, ◌+◌, ◌<◌, ◌∷◌, ℕ, [], List as Items, IfOk, IfErr, IfSome};
 
 use crate::beginning::{end_edits, judge_answer, judge_head};
 use crate::judging::{judge_block, judge_edits, judge_log, judge_ready};
@@ -25,7 +25,7 @@ fn rejected(number: u64, kind: CertKind) -> Outcome
     Outcome::Rejected(CertFault { line: number, kind })
 }
 
-/// Judges a line, which has this number.
+/// Judges the line of this number.
 fn judge_line(
     alloc: Global,
     net: &Network,
@@ -52,7 +52,7 @@ fn judge_line(
     }
 }
 
-/// The outcome where the text ends before a line of this number.
+/// The outcome if the text ends before the line of this number.
 fn judge_end(
     alloc: Global,
     net: &Network,
@@ -75,7 +75,7 @@ fn judge_end(
     }
 }
 
-/// What a reader answers to the next line, other than out of memory.
+/// The reader's answer to the next line, with out of memory as an error of its own.
 fn read_line(
     reader: &mut Reader,
     net: &Network,
@@ -99,9 +99,9 @@ fn read_line(
     }
 }
 
-/// The judgement of the certificate of a repair, up to the line that comes next. It holds the
-/// edits that are chosen so far, the block that is not at its end, and what the log is judged by,
-/// but no line. All calls are made with the same network, document and list of edits.
+/// The state of judging the certificate of a repair, before its next line. It holds the edits
+/// chosen so far, what was read of the current block, and the checker of the log, but no line. All
+/// calls take the same network, document and list of edits.
 #[derive(Drop)]
 pub struct RepairJudge {
     reader: Reader,
@@ -112,7 +112,7 @@ pub struct RepairJudge {
 impl RepairJudge {
     ghost use Rattle.repair_check.specs.LineByLine.{CanGoOn, HasComeTo, Judges};
 
-    /// A judge to whom no line came.
+    /// A judge before the first line.
     pub fn make(alloc: Global) -> RepairJudge
         ensures come { (net : Network) (doc : Document) (list : Items Edit) (text : Items ℕ) →
             HasComeTo net doc list text (lines text) result }
@@ -127,11 +127,11 @@ impl RepairJudge {
         }
     }
 
-    /// Judges the next line, without its line feed: another may come, or this is the outcome,
-    /// whatever follows. The formula is counted at the line of the answer, where that is in its
-    /// form with a bound of at most `PRICE_LIMIT`, and made once. A line takes time linear in its
-    /// bytes, the lines of edits also in the edits, all together, and a step of the log in the
-    /// clauses that its hints name.
+    /// Judges the next line, given without its line feed: `Continue` if another may come, `Break`
+    /// with the outcome if it is known whatever follows. The formula is made once, at the line of
+    /// the answer, if that is of its form with a bound of at most `PRICE_LIMIT`; a count above its
+    /// limit is a fault there. A line takes time linear in its bytes, a step of the log also in the
+    /// clauses that its hints name, and the lines of edits together in the number of edits.
     pub fn line(
         self,
         alloc: Global,
@@ -169,7 +169,7 @@ impl RepairJudge {
         }
     }
 
-    /// The outcome where no other line comes.
+    /// The outcome if no other line comes.
     pub fn end(
         self,
         alloc: Global,

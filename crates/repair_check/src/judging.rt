@@ -1,8 +1,8 @@
 //! The lines after the answer, one by one.
-ghost use Rattle.std.specs.Prelude.{◌≡◌, ◌<◌, List as Items, true, set, IfOk};
 ghost use Rattle.repair_check.specs.Instances.{IsJudgeable};
 ghost use Rattle.repair_check.specs.Outcomes.{is_edit_kind};
 ghost use Rattle.repair_check.specs.Phases.{EndsEdits, IsClaimed, LeadsTo};
+ghost use Rattle.std.specs.Prelude.{◌≡◌, ◌<◌, List as Items, true, set, IfOk};
 
 use crate::beginning::{end_edits, rejected};
 use crate::phases::{Blocks, Next, Phase, RepairClaim};
@@ -15,7 +15,7 @@ use proof_log::Step;
 use report_check::{Outcome, is_right_at};
 use std::alloc::Global;
 
-/// Whether a line is rejected as that of an edit.
+/// Whether a line is rejected as an edit.
 fn is_edit_kind(kind: CertKind) -> bool
     ensures { result ≡ is_edit_kind kind }
 {
@@ -77,7 +77,7 @@ pub(crate) fn judge_ready(checker: Checker, number: u64, told: Result<Got, CertF
     }
 }
 
-/// Judges a line that goes on: one of a block, or that before the log.
+/// Judges a line that completes nothing: one inside a block, or the one before the log.
 fn go_on(doc: &Document, blocks: Blocks, number: u64) -> Next
     requires { IsJudgeable doc.now blocks.now }
     ensures { (net : Network) (list : Items Edit) →
@@ -110,7 +110,7 @@ fn judge_verdict(doc: &Document, blocks: Blocks, number: u64, which: u32, verdic
     }))
 }
 
-/// Judges a line of the blocks, or that before the log.
+/// Judges a line of the blocks, or the one before the log.
 pub(crate) fn judge_block(
     doc: &Document,
     blocks: Blocks,
@@ -130,7 +130,7 @@ pub(crate) fn judge_block(
     }
 }
 
-/// The flag of the edit at this place is set.
+/// Sets the flag of the edit at this place.
 fn choose(chosen: Vec<bool>, place: u32) -> Vec<bool>
     ensures { result.items ≡ set chosen.items place true }
 {
@@ -141,7 +141,7 @@ fn choose(chosen: Vec<bool>, place: u32) -> Vec<bool>
     flags
 }
 
-/// Judges a line that is none of the edits: they have ended before it.
+/// Judges the first line that is not an edit.
 fn judge_after_edits(
     alloc: Global,
     net: &Network,

@@ -10,7 +10,7 @@ use policy_report::laws::{
     certificates_are_read_again, edits_are_told_apart, only_certificates_are_taken,
 };
 
-/// A text is accepted exactly where it is the certificate of a claim.
+/// A text is accepted exactly if it is the certificate of a claim.
 pub fn certificates_are_accepted()
     ensures { CertificatesAreAccepted }
 {
@@ -36,8 +36,8 @@ pub fn certified_claims_are_true()
     certificates_are_true();
 }
 
-/// What is written for a claim and a log that shows it is a certificate of the claim, and names the
-/// claim's bound.
+/// The text that is written for a claim, with a log that proves it, is a certificate of the claim,
+/// and names the claim's bound.
 pub fn written_claims_are_certified()
     ensures certified { WrittenClaimsAreCertified }
     ensures bounded { CertificatesNameTheirBound }

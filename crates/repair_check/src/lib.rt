@@ -1,7 +1,7 @@
-//! The judgement of the certificate of a repair, line by line: its price, its verdicts in the
-//! network after its edits, and its log for the repair formula. A text is accepted exactly if it is
-//! the certificate of a claim, and such a claim is true; of any other text the first line that is
-//! rejected is answered. A `RepairJudge` takes the lines one by one.
+//! Judging the certificate of a repair, line by line: its price, its verdicts in the network after
+//! its edits, and its log for the repair formula. A text is accepted exactly if it is the
+//! certificate of a claim, and such a claim is true; for any other text the answer is the first
+//! line that is rejected. A `RepairJudge` takes the lines one by one.
 #![tactic(auto)]
 
 mod addresses;

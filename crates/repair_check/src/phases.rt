@@ -4,18 +4,18 @@ use net_model::Network;
 use proof_check::Checker;
 use report_check::Outcome;
 
-/// What is judged after the edits.
+/// The state once the edits are read.
 #[derive(Drop)]
 pub(crate) struct Blocks {
     /// The network after the edits.
     pub now: Network,
-    /// Whether the log has to refute something.
+    /// Whether the log has to refute the formula; at price 0 there is nothing to refute.
     pub needs: bool,
-    /// So many policies are judged.
+    /// How many policies are judged so far.
     pub judged: u64,
-    /// The line where the block begins that the next line belongs to.
+    /// The line where the block of the next line begins.
     pub first: u64,
-    /// What the log is judged by.
+    /// The checker of the log.
     pub checker: Checker,
 }
 
@@ -28,7 +28,7 @@ pub(crate) struct RepairClaim {
     pub bound: u32,
     /// The edits that are chosen so far: a flag for each.
     pub chosen: Vec<bool>,
-    /// What the log will be judged by, where the bound is at most `PRICE_LIMIT`.
+    /// The checker of the log, if the bound is at most `PRICE_LIMIT`.
     pub log: Option<Checker>,
 }
 
@@ -45,16 +45,16 @@ pub(crate) enum Phase {
     Blocks(Blocks),
     /// The line before the log of a claim that there is no repair.
     Ready(Checker),
-    /// The log, and whether it has to refute something.
+    /// The log, and whether it has to refute the formula.
     Log(bool, Checker),
     /// Nothing: the last line was read.
     Ended,
 }
 
-/// What a line leads to.
+/// What follows a line.
 #[derive(Drop)]
 pub(crate) enum Next {
-    /// What is judged by the lines after it.
+    /// Another line, which this phase judges.
     Line(Phase),
     /// Nothing: this is the outcome.
     Done(Outcome),

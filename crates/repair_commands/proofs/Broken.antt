@@ -1,4 +1,4 @@
--- A network of files that meets the document is mended by no edits.
+-- A network of files that meets the document is mended by choosing no edits.
 use Rattle.std.proofs.Common.{◌≡◌, ℕ, false, List, [], ◌∷◌, refl, sym, subst}
 use Rattle.std.specs.Prelude.{All, AllPairs}
 use Rattle.std.specs.List.{AllZip}

@@ -1,4 +1,4 @@
--- The words and the files give one refusal of `repair`, and none beside a network that can be repaired.
+-- The words and the files give at most one refusal of `repair`, and none beside a network that can be repaired.
 use Rattle.std.proofs.Common.{◌≡◌, ◌⊎◌, inl, inr, true, false, List, [], sym, ◌∙◌, ap, subst}
 use Rattle.std.proofs.lemmas.Bool.{false≢true}
 use Rattle.arc_outside.specs.Files.{Files}
@@ -26,7 +26,8 @@ module _ (words : RepairWords) (files : Files) where
   clash_or_free doc other h k free clash = false≢true (sym free ∙ ap (has_clash words) (docs doc other h k) ∙ clash)
 
   -- what holds of the document and the network, whichever they are
-  pub moved : (doc : Document) (net : Network) → HasNetwork words files doc net → (Q : Document → Network → Type 0) (other : Document) (last : Network) → HasNetwork words files other last → Q other last → Q doc net
+  pub moved : (doc : Document) (net : Network) → HasNetwork words files doc net → (Q : Document → Network → Type 0) (other : Document) (last : Network) →
+      HasNetwork words files other last → Q other last → Q doc net
   moved doc net has Q other last h q =
       let same : doc ≡ other = docs doc other has.input.files_are.document_is h.input.files_are.document_is in
       let P : Document → Type 0 = λ d. HoldsInput Editing [] words.document files d net in
@@ -38,7 +39,7 @@ module _ (words : RepairWords) (files : Files) where
   abbrev Behind : FileRefusal → Type 0
   Behind r = RefusesSources words files r ⊎ RefusesCounts words files r
 
-  -- no name is taken where something behind is refused
+  -- no name is taken if something later is refused
   freed : (r : FileRefusal) → Behind r → (doc : Document) × HoldsDocument words.document files doc × (has_clash words doc ≡ false)
   freed r (inl u) = (u.doc, u.document_is, u.free)
   freed r (inr u) = (u.doc, u.has.input.files_are.document_is, u.has.free)
@@ -61,9 +62,10 @@ module _ (words : RepairWords) (files : Files) where
       let fault = moved u.doc u.net u.has (λ d n. IsRepairFault n d words.bound (Limit v.what v.count)) v.doc v.net v.has v.fault in
       u.told ∙ limit_refusal words.document u.what v.what u.count v.count (one_fault u.net u.doc words.bound u.valid u.what v.what u.count v.count u.fault fault) ∙ sym v.told
 
-  -- ---- and none beside a network that can be repaired
+  -- ---- no refusal beside a network that can be repaired
 
-  pub not_refused : (doc : Document) (net : Network) → HasNetwork words files doc net → (list : List Edit) → IsRepairable words.bound net doc list → (r : FileRefusal) → IsRepairRefusal words files r → ⊥
+  pub not_refused : (doc : Document) (net : Network) → HasNetwork words files doc net → (list : List Edit) → IsRepairable words.bound net doc list →
+      (r : FileRefusal) → IsRepairRefusal words files r → ⊥
   not_refused doc net has list is r (inl u) = held_or_refused words.document files doc r has.input.files_are.document_is u
   not_refused doc net has list is r (inr (inl u)) = clash_or_free doc u.doc has.input.files_are.document_is u.document_is has.free u.clash
   not_refused doc net has list is r (inr (inr (inl u))) = (determined Editing [] words.document files).not_both doc net r has.input (inr (inr u.refused))

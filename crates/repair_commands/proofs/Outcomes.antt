@@ -1,4 +1,4 @@
--- What an answer of a repair shows, and what the status of a command that repairs tells.
+-- What an answer of a repair shows, and what the status of a command that repairs says.
 use Rattle.std.proofs.Common.{◌≡◌, ℕ, ◌<◌, inl, inr, Bool, Option, Some, List, [], refl, subst, arith}
 use Rattle.arc_outside.specs.Files.{Files}
 use Rattle.net_model.specs.declared.policies.Document.{Document}
@@ -36,7 +36,8 @@ module _ (bound conflicts : ℕ) (doc : Document) (built : Built) (files : List 
       → HoldsCertificate conflicts built.net doc list claim proof
   certified claim log proof is written = record { log = log; certificate = is.is_answer.certificate; lines = is.lines; within = is.within; written = written }
 
-  abbrev pub shows_cheapest : (price : ℕ) (flags : List Bool) (verdicts : List Verdict) (log : Log) (new : List (List ℕ)) (proof : Option (List ℕ)) → Answered (Claimed (Repaired price bound flags verdicts) log)
+  abbrev pub shows_cheapest : (price : ℕ) (flags : List Bool) (verdicts : List Verdict) (log : Log) (new : List (List ℕ)) (proof : Option (List ℕ)) →
+      Answered (Claimed (Repaired price bound flags verdicts) log)
       → ArePatched built (chosen_of list flags) files new → proof ≡ Some (certificate_text built.net doc list (Repaired price bound flags verdicts) log)
       → ShowsCheapest bound conflicts doc built files proof
   shows_cheapest price flags verdicts log new proof is patched written =
@@ -89,14 +90,14 @@ module _ (bound conflicts : ℕ) (doc : Document) (built : Built) (files : List 
     broken = λ meets. is.untouched (met_by_none [] 2048 doc files built.net list editable.is_built.network editable.fit.valid meets);
   }
 
--- there is no repair where there is none
+-- there is not both a repair and none
 pub not_both : (bound : ℕ) (net : Network) (doc : Document) → IsValid net → HasRepair bound net doc → HasNoRepair bound net doc → ⊥
 not_both bound net doc valid can cannot =
     let same : cannot.list ≡ can.list = edit_lists_are_one net doc cannot.list can.list valid cannot.repairable.edits can.repairable.edits in
     let P : List Edit → Type 0 = λ list. (flags : List Bool) → Mends net doc list flags → bound < price_of_flags doc list flags in
     absurd (omega (arith, subst P same cannot.none can.flags can.mends, can.affordable))
 
--- ---- what is told
+-- ---- what the status says
 
 module _ {Cheapest NoneThere Spent Refused Can Cannot : Type 0} (before after : Files) (status : ℕ) where
   pub tells_cheapest : status ≡ 0 → Cheapest → (Refused → ⊥) → (Cannot → ⊥) → TellsOutcome Cheapest NoneThere Spent Refused Can Cannot status before after
@@ -135,7 +136,7 @@ module _ {Cheapest NoneThere Spent Refused Can Cannot : Type 0} (before after : 
     nothing_else = inr (inr (inl three));
   }
 
--- and where something is refused
+-- the status of a refusal
 pub tells_refused : {Cheapest NoneThere Spent Refused Can Cannot : Type 0} (files : Files) → Refused → (Can → ⊥) → (Cannot → ⊥) → TellsOutcome Cheapest NoneThere Spent Refused Can Cannot 5 files files
 tells_refused files refused can cannot = record {
   repaired = λ e. absurd (omega arith);

@@ -15,7 +15,7 @@ use Rattle.edit_list.specs.declared.edit_kinds.EditFault.TheVariants as faults
 use Rattle.policy_report.specs.Certificates.{budget_text, certificate_text}
 use Rattle.arc_repair.specs.declared.answer.Answer.{Answer}
 use Rattle.arc_repair.specs.declared.answer.Answer.TheVariants.{Done as Claimed, Budget}
-use Rattle.arc_repair.specs.Answers.{IsAnswer, IsRepairFault}
+use Rattle.arc_repair.specs.Answers.{IsRepairAnswer, IsRepairFault}
 use Rattle.std.proofs.lemmas.List.Elements.{All-nil}
 use Rattle.std.proofs.lemmas.Slice.Zip.{AllZip-long}
 use Rattle.file_copies.specs.Changes.{IsEditable}
@@ -34,19 +34,19 @@ use Rattle.run_inputs.specs.Inputs.{AreFit, HoldsDocument, ReadsDocumentAt, Read
 use Rattle.repair_commands.specs.Repairs.{has_clash, IsRepaired, IsRepairRefusal, WritesAnswer, WritesCertificate}
 use Rattle.repair_commands.specs.Steps.{IsFound, IsWholeAnswer}
 
--- where the command stops
+-- the command stops for this reason
 abbrev pub StoppedAs : RepairWords → Option Files → Stop → Type 0
 StoppedAs words held stop = Answers (WritesCertificate words) (IsRepairRefusal words) (IsRepaired words) held (Err stop)
 
--- the document is held
+-- the document that was read
 abbrev pub ReadBefore : RepairWords → Option Files → Document → Type 0
 ReadBefore words held doc = IfSome held (λ files. ReadsDocumentAt words.document files (Ok doc))
 
--- the router files gave this
+-- the router files that were read, and what was built from them
 abbrev pub ReadSources : RepairWords → Option Files → Document → Sources → Type 0
 ReadSources words held doc sources = IfSome held (λ files. HoldsDocument words.document files doc → ReadsSources Editing [] words.document doc files (Ok sources))
 
--- a count is refused
+-- the refusal of a count
 counts_told : (held : Option Files) (words : RepairWords) (doc : Document) (sources : Sources) (what : LimitKind) (count : ℕ) → ReadBefore words held doc → has_clash words doc ≡ false
     → ReadSources words held doc sources → AreFit doc sources.built.net → IsRepairFault sources.built.net doc words.bound (faults.Limit what count)
     → IfSome held (λ files. IsRepairRefusal words files (refusal_of words.document 0 (Limit what count)))
@@ -70,21 +70,23 @@ counted held words doc sources fault stop before free told fit is_fault is =
     (λ (done : Done). WritesCertificate words done × IfSome held (λ files. IsRepaired words files done)) words.document
     (λ what count passed. counts_told held words doc sources what count before free told fit passed) fault stop is is_fault
 
-pub counts_stopped : (held one : Option Files) → one ≡ held → (words : RepairWords) (doc : Document) (sources : Sources) (fault : EditFault) (stop : Stop) → ReadBefore words held doc → has_clash words doc ≡ false
+pub counts_stopped : (held one : Option Files) → one ≡ held → (words : RepairWords) (doc : Document) (sources : Sources) (fault : EditFault) (stop : Stop) →
+    ReadBefore words held doc → has_clash words doc ≡ false
     → ReadSources words one doc sources → AreFit doc sources.built.net → IsRepairFault sources.built.net doc words.bound fault → StopsFor words.document fault stop → StoppedAs words held stop
 counts_stopped held one same words doc sources fault stop before free told fit is_fault is =
     let P : Option Files → Type 0 = λ o. ReadSources words o doc sources in
     counted held words doc sources fault stop before free (subst P same told) fit is_fault is
 
 -- an answer is whole
-pub whole : (net : Network) (doc : Document) (list : List Edit) (most conflicts : ℕ) (answer : Answer) → IsAnswer net doc list most conflicts answer → IsWholeAnswer doc list answer
+pub whole : (net : Network) (doc : Document) (list : List Edit) (most conflicts : ℕ) (answer : Answer) → IsRepairAnswer net doc list most conflicts answer → IsWholeAnswer doc list answer
 whole net doc list most conflicts (Claimed (Repaired price bound flags verdicts) log) is =
     (is.certificate.right.one_each, AllZip-long _ doc.policies verdicts is.certificate.right.judged)
 whole net doc list most conflicts (Claimed (NoRepair bound) log) is = tt
 whole net doc list most conflicts (Budget log) is = tt
 
--- what is written
-own : (words : RepairWords) (doc : Document) (sources : Sources) (list : List Edit) (answer : Answer) (done : Done) → WritesAnswer words doc sources.built sources.files list answer done → WritesCertificate words done
+-- the files that are written
+own : (words : RepairWords) (doc : Document) (sources : Sources) (list : List Edit) (answer : Answer) (done : Done) →
+    WritesAnswer words doc sources.built sources.files list answer done → WritesCertificate words done
 own words doc sources list (Claimed (Repaired price bound flags verdicts) log) done w = record {
   status = inl w.writes.status_is;
   changed = w.changed;
@@ -111,7 +113,8 @@ own words doc sources list (Budget log) done w = record {
   writes = w.writes;
 }
 
-done_told : (files : Files) (words : RepairWords) (doc : Document) (sources : Sources) (list : List Edit) (answer : Answer) (done : Done) → HoldsDocument words.document files doc → has_clash words doc ≡ false
+done_told : (files : Files) (words : RepairWords) (doc : Document) (sources : Sources) (list : List Edit) (answer : Answer) (done : Done) →
+    HoldsDocument words.document files doc → has_clash words doc ≡ false
     → ReadsSources Editing [] words.document doc files (Ok sources) → IsWellFormed doc → AreFit doc sources.built.net → IsBuiltWithin [] 2048 doc sources.files sources.built
     → length sources.files ≡ length doc.routers → All (λ t. length t ≤ 1048576) sources.files → IsFound words.bound words.conflicts sources.built.net doc list answer
     → WritesAnswer words doc sources.built sources.files list answer done → IsRepaired words files done
@@ -129,7 +132,8 @@ done_told files words doc sources list answer done is free read well_formed fit 
       writes = subst Written read.files_are writes;
     }
 
-pub repaired : (held one : Option Files) → one ≡ held → (words : RepairWords) (doc : Document) (sources : Sources) (list : List Edit) (answer : Answer) (done : Done) → ReadBefore words held doc → has_clash words doc ≡ false
+pub repaired : (held one : Option Files) → one ≡ held →
+    (words : RepairWords) (doc : Document) (sources : Sources) (list : List Edit) (answer : Answer) (done : Done) → ReadBefore words held doc → has_clash words doc ≡ false
     → ReadSources words one doc sources → IsWellFormed doc → AreFit doc sources.built.net → IsBuiltWithin [] 2048 doc sources.files sources.built
     → length sources.files ≡ length doc.routers → All (λ t. length t ≤ 1048576) sources.files → IsFound words.bound words.conflicts sources.built.net doc list answer
     → WritesAnswer words doc sources.built sources.files list answer done → Answers (WritesCertificate words) (IsRepairRefusal words) (IsRepaired words) held (Ok done)

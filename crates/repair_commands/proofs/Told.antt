@@ -30,14 +30,14 @@ module _ (words : RepairWords) (files : Files) where
     abbrev now : Files
     now = with_files d.writes files
 
-    -- what is answered, and what is written of it
+    -- the answer, and what is written for it
     abbrev Gave : Answer → Type 0
     Gave answer = IsAnswered words.bound words.conflicts done.built.net done.doc done.list answer × WritesAnswer words done.doc done.built (contents files done.doc) done.list answer d
 
     free : IsFreeLast (words.document ∷ done.doc.routers) (copy_names words.suffix done.doc.routers) words.proof
     free = free_last (words.document ∷ done.doc.routers) (copy_names words.suffix done.doc.routers) words.proof done.has.free
 
-    -- the files after one write more
+    -- the files after one more write
     after_is : (told : List ℕ) (changed : List (List ℕ × List ℕ)) (certificate : List ℕ) (status : ℕ) → Writes words told changed certificate status d
         → with_files d.writes files ≡ with_file (with_files changed files) words.proof certificate
     after_is told changed certificate status writes = ap (λ (pairs : List (List ℕ × List ℕ)). with_files pairs files) writes.writes ∙ written_last changed words.proof certificate files
@@ -47,7 +47,7 @@ module _ (words : RepairWords) (files : Files) where
     written told changed certificate status writes =
         ap (λ (f : Files). f words.proof) (after_is told changed certificate status writes) ∙ is_written (with_files changed files) words.proof certificate
 
-    -- where the certificate alone is written, all else is kept
+    -- if the certificate alone is written, all other files are kept
     alone : (told certificate : List ℕ) (status : ℕ) → Writes words told [] certificate status d → KeepsOthers words.proof files now
     alone told certificate status writes name other =
         ap (λ (f : Files). f name) (after_is told [] certificate status writes) ∙ other_kept files words.proof certificate name (λ e. other (sym e))
@@ -122,7 +122,7 @@ module _ (words : RepairWords) (files : Files) where
         told_none log (subst P gave.0.is_answer.same_bound gave)
     told_as (Budget log) gave = tells_spent files now d.status gave.1.status_is (spent log gave) never
 
-    -- the text that is put tells this repair
+    -- the text that is printed is about this repair
     puts : (answer : Answer) → Gave answer → d.status ≡ 0 → PutsCheapest words files d
     puts (Claimed (Repaired price bound flags verdicts) log) gave zero' =
         let P : ℕ → Type 0 = λ b. Gave (Claimed (Repaired price b flags verdicts) log) in

@@ -1,4 +1,4 @@
--- What a repair of a network comes to, and what its proof is then: for all commands that repair,
+-- The outcomes of a repair of a network, and the proof of each: for all commands that repair,
 -- wherever their network comes from. The proof is what is held under the name that they write.
 use Rattle.std.specs.Prelude.{◌≡◌, ◌↔◌, ◌⊎◌, ℕ, ◌<◌, ◌≤◌, Bool, List, All, Option, Some}
 use Rattle.arc_outside.specs.Files.{Files}
@@ -19,11 +19,11 @@ use Rattle.line_patcher.specs.Patches.{ArePatched}
 use Rattle.proof_log.specs.declared.steps.Log.{Log}
 use Rattle.proof_log.specs.Texts.{HasLine}
 use Rattle.policy_report.specs.Certificates.{budget_text, certificate_text}
-use Rattle.arc_repair.specs.Answers.{IsOutOfBudget, KeepsLimits}
+use Rattle.arc_repair.specs.Answers.{IsOutOfRepairBudget, KeepsLimits}
 use Rattle.arc_repair.specs.Claims.{IsCertificate}
-use Rattle.arc_repair.specs.Repairs.{IsLeast, Mends}
+use Rattle.arc_repair.specs.Repairs.{IsLeastPrice, Mends}
 
--- these are the edits of the network, and nothing passes its limit
+-- the list has the edits of the network, and each count is within its limit
 pub record IsRepairable (bound : ℕ) (net : Network) (doc : Document)
     (list : List Edit) : Type 0 where
   pub edits : AreEdits net doc list
@@ -37,7 +37,7 @@ pub record HasRepair (bound : ℕ) (net : Network) (doc : Document) : Type 0 whe
   pub mends : Mends net doc list flags
   pub affordable : price_of_flags doc list flags ≤ bound
 
--- no edits within the bound do
+-- no edits within the bound make the network meet every policy
 pub record HasNoRepair (bound : ℕ) (net : Network) (doc : Document) : Type 0 where
   pub list : List Edit
   pub repairable : IsRepairable bound net doc list
@@ -52,9 +52,9 @@ pub record HoldsCertificate (conflicts : ℕ) (net : Network) (doc : Document)
   pub within : additions log.steps ≤ conflicts
   pub written : proof ≡ Some (certificate_text net doc list claim log)
 
--- These are the edits of the network that are the cheapest after which it meets every policy, at a
--- price within the bound. The patches of the router files by these edits, read again, have exactly
--- the network after them, which meets every policy. The proof is the certificate of this.
+-- The edits are the cheapest of the network's after which it meets every policy, at a price within
+-- the bound. The patches of the router files by these edits, read again, have exactly the network
+-- after them, which meets every policy. The proof is the certificate of this.
 pub record ShowsCheapest (bound conflicts : ℕ) (doc : Document) (built : Built)
     (files : List (List ℕ)) (proof : Option (List ℕ)) : Type 0 where
   pub list : List Edit
@@ -63,7 +63,7 @@ pub record ShowsCheapest (bound conflicts : ℕ) (doc : Document) (built : Built
   pub price : ℕ
   pub costs : price_of_flags doc list flags ≡ price
   pub affordable : price ≤ bound
-  pub least : IsLeast built.net doc list price
+  pub least : IsLeastPrice built.net doc list price
   pub repaired : Network
   pub is_after : IsAfter built.net (chosen_of list flags) repaired
   pub meets : MeetsDocument repaired doc
@@ -83,13 +83,13 @@ pub record ShowsNone (bound conflicts : ℕ) (net : Network) (doc : Document)
 
 -- The proof is a log that is spent for the repair formula, with a line for each step: each of its
 -- bounds is this one, or one less than the price of edits after which the network meets every
--- policy, and as it is it does not.
+-- policy; and without edits the network does not meet every policy.
 pub record ShowsSpent (bound conflicts : ℕ) (net : Network) (doc : Document)
     (proof : Option (List ℕ)) : Type 0 where
   pub list : List Edit
   pub repairable : IsRepairable bound net doc list
   pub log : Log
-  pub spent : IsOutOfBudget net doc list bound conflicts log.steps
+  pub spent : IsOutOfRepairBudget net doc list bound conflicts log.steps
   pub lines : All HasLine log.steps
   pub written : proof ≡ Some (budget_text conflicts bound log)
   pub broken : ¬ MeetsDocument net doc
@@ -100,8 +100,8 @@ KeepsOthers proof before after = (name : List ℕ) → ¬ (name ≡ proof) → a
 
 -- What the status of a command that repairs says of the files before and after: 0 for the cheapest
 -- repair, 2 if there is none within the bound, 3 in place of either if what was written is a spent
--- log, and 5 for refused, with nothing written. What each of these means, and that there is a
--- repair within the bound or none, each command says of its own network.
+-- log, and 5 for refused, with nothing written. What each of these means, and whether there is a
+-- repair within the bound, each command says for its own network.
 pub record TellsOutcome (Cheapest NoneThere Spent Refused Can Cannot : Type 0) (status : ℕ)
     (before after : Files) : Type 0 where
   pub repaired : status ≡ 0 → Cheapest

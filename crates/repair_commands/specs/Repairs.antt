@@ -22,8 +22,8 @@ use Rattle.policy_report.specs.Certificates.{budget_text, certificate_text}
 use Rattle.policy_report.specs.Edits.{edit_lines}
 use Rattle.arc_repair.specs.declared.answer.Answer.{Answer}
 use Rattle.arc_repair.specs.declared.answer.Answer.TheVariants.{Done as Claimed, Budget}
-use Rattle.arc_repair.specs.Answers.{AnswersFew, IsAnswer, IsRepairFault, IsUntouched, KeepsLimits}
-use Rattle.arc_repair.specs.Answers.{answer_steps}
+use Rattle.arc_repair.specs.Answers.{AnswersFew, IsRepairAnswer, IsRepairFault, IsUntouched}
+use Rattle.arc_repair.specs.Answers.{KeepsLimits, answer_steps}
 use Rattle.arc_repair.specs.Repairs.{Mends}
 use Rattle.file_copies.specs.Outputs.{clashes, copy_names, wrote_lines, IsCopyName}
 use Rattle.file_copies.specs.Changes.{Changes, IsEditable}
@@ -40,11 +40,11 @@ use Rattle.run_inputs.specs.Inputs.{contents}
 abbrev pub output_names : RepairWords → Document → List (List ℕ)
 output_names words doc = copy_names words.suffix doc.routers ++ words.proof ∷ []
 
--- whether one of them has the name of a file that is read, or of another of them
+-- whether one of these outputs has the name of a file that is read, or of another output
 abbrev pub has_clash : RepairWords → Document → Bool
 has_clash words doc = clashes (words.document ∷ doc.routers) (output_names words doc)
 
--- the document is held, and a name of an output is taken
+-- the document is held, and the name of an output is taken
 pub record RefusesOutputs (words : RepairWords) (files : Files) (r : FileRefusal) : Type 0 where
   pub doc : Document
   pub document_is : HoldsDocument words.document files doc
@@ -64,7 +64,8 @@ pub record HasNetwork (words : RepairWords) (files : Files) (doc : Document)
   pub free : has_clash words doc ≡ false
   pub input : HoldsInput Editing [] words.document files doc net
 
--- and its classes, its edits or the variables or literals of its formula are too many
+-- the document and its files have a network, and its classes, its edits or the variables or
+-- literals of its formula are too many
 pub record RefusesCounts (words : RepairWords) (files : Files) (r : FileRefusal) : Type 0 where
   pub doc : Document
   pub net : Network
@@ -96,8 +97,8 @@ abbrev pub repair_lines : Network → List Edit → ℕ → List Bool → List �
 repair_lines net list price flags =
     codes "repaired " ++ decimal price ++ codes "\n" ++ edit_lines net (chosen_of list flags)
 
--- a repair prints its price and its edits, and writes the files that these change, and its
--- certificate
+-- a repair prints its price and its edits, and writes copies of the files that these change, and
+-- its certificate
 pub record WritesRepair (words : RepairWords) (doc : Document) (built : Built)
     (olds : List (List ℕ)) (list : List Edit) (price : ℕ)
     (flags : List Bool) (certificate : List ℕ) (done : Done) : Type 0 where
@@ -105,7 +106,8 @@ pub record WritesRepair (words : RepairWords) (doc : Document) (built : Built)
   pub changes : Changes words.suffix doc built olds (chosen_of list flags) changed
   pub writes : Writes words (repair_lines built.net list price flags) changed certificate 0 done
 
--- a claim that there is no repair prints its bound, and writes its certificate
+-- a claim of a repair prints and writes this repair; a claim that there is none prints its bound,
+-- and writes its certificate
 abbrev pub WritesClaim : RepairWords → Document → Built → List (List ℕ) → List Edit →
     Claim → Log → Done → Type 0
 WritesClaim words doc built olds list (Repaired price bound flags verdicts) log done =
@@ -115,7 +117,8 @@ WritesClaim words doc built olds list (NoRepair bound) log done =
     Writes words (codes "none " ++ decimal bound ++ codes "\n") []
     (certificate_text built.net doc list (NoRepair bound) log) 2 done
 
--- a log that is spent prints its limit, and writes what was used up
+-- an answer prints and writes its claim; a spent log prints the limit of conflicts, and is written
+-- as it is
 abbrev pub WritesAnswer : RepairWords → Document → Built → List (List ℕ) → List Edit →
     Answer → Done → Type 0
 WritesAnswer words doc built olds list (Claimed claim log) done =
@@ -134,20 +137,20 @@ pub record WritesCertificate (words : RepairWords) (done : Done) : Type 0 where
   pub certificate : List ℕ
   pub writes : done.writes ≡ changed ++ (words.proof, certificate) ∷ []
 
--- what a repair of the network answers within a bound on its price and a limit of conflicts: over
+-- the answer of a repair of the network, within a bound on its price and a limit of conflicts: over
 -- its edits, which are few, as is its formula; each verdict shows few sides or paths. A network
 -- that meets the document is left as it is.
 pub record IsAnswered (bound conflicts : ℕ) (net : Network) (doc : Document) (list : List Edit)
     (answer : Answer) : Type 0 where
   pub edits : AreEdits net doc list
   pub limits : KeepsLimits net doc list bound
-  pub is_answer : IsAnswer net doc list bound conflicts answer
+  pub is_answer : IsRepairAnswer net doc list bound conflicts answer
   pub lines : All HasLine (answer_steps answer)
   pub few : AnswersFew answer
   pub within : additions (answer_steps answer) ≤ conflicts
   pub untouched : Mends net doc list (none_of list) → IsUntouched list answer
 
--- The answer: of the network and its edits, with what it writes.
+-- The answer for the network and its edits, with what it writes.
 pub record IsRepaired (words : RepairWords) (files : Files) (done : Done) : Type 0 where
   pub doc : Document
   pub built : Built

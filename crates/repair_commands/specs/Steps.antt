@@ -1,4 +1,4 @@
--- What the steps of the command answer.
+-- The answers of the steps of `repair`.
 use Rattle.std.specs.Prelude.{ℕ, ◌≤◌, List, length}
 use Rattle.arc_base.specs.declared.limits.TheConstants.{EDIT_LIMIT}
 use Rattle.net_model.specs.declared.policies.Document.{Document}
@@ -15,7 +15,7 @@ abbrev pub IsWholeAnswer : Document → List Edit → Answer → Type 0
 IsWholeAnswer doc list (Claimed claim log) = IsWholeClaim doc list claim
 IsWholeAnswer doc list (Budget log) = Unit {0}
 
--- the edits of the network, and what its repair answers
+-- the edits of the network, and the answer of its repair
 pub record IsFound (bound conflicts : ℕ) (net : Network) (doc : Document) (list : List Edit)
     (answer : Answer) : Type 0 where
   pub answered : IsAnswered bound conflicts net doc list answer

@@ -17,8 +17,8 @@ use Rattle.repair_commands.specs.Repairs.{repair_lines, HasNetwork, IsRepairRefu
 
 -- The cheapest repair of the network of the document and its files was found, and its certificate
 -- written. The patches of the router files are left: each is held under the name of its copy, or is
--- the file as it was where there is nothing to change. All names but that of the certificate and
--- those of the copies of changed files hold what they held.
+-- the file as it was if there is nothing to change. All names but that of the certificate and those
+-- of the copies of changed files hold what they held.
 pub record HasCheapest (words : RepairWords) (before after : Files) : Type 0 where
   pub doc : Document
   pub built : Built
@@ -31,15 +31,16 @@ pub record HasCheapest (words : RepairWords) (before after : Files) : Type 0 whe
       → ¬ Contains (changed_names words.suffix doc before repair.new) name
       → after name ≡ before name
 
--- it was found and written, and the text that is printed has its price, its edits, and the files
--- that are written
+-- the cheapest repair was found and written, and the printed text has its price, its edits, and the
+-- names of the written files
 pub record PutsCheapest (words : RepairWords) (files : Files) (done : Done) : Type 0 where
   pub found : HasCheapest words files (with_files done.writes files)
   pub text : done.text
       ≡ repair_lines found.built.net found.repair.list found.repair.price found.repair.flags
       ++ wrote_lines done.writes
 
--- there is no repair of it within the bound; the certificate of this was written, and nothing else
+-- there is no repair of the network within the bound; the certificate of this was written, and
+-- nothing else
 pub record HasNone (words : RepairWords) (before after : Files) : Type 0 where
   pub doc : Document
   pub net : Network
@@ -62,7 +63,7 @@ pub record CanBeRepaired (words : RepairWords) (files : Files) : Type 0 where
   pub has : HasNetwork words files doc net
   pub repair : HasRepair words.bound net doc
 
--- they have one that has none
+-- the document and its files have a network that has no repair within the bound
 pub record CannotBeRepaired (words : RepairWords) (files : Files) : Type 0 where
   pub doc : Document
   pub net : Network
@@ -74,7 +75,7 @@ pub record IsRepairRefused (words : RepairWords) (files : Files) : Type 0 where
   pub refusal : FileRefusal
   pub refused : IsRepairRefusal words files refusal
 
--- what the status says of the files before and after
+-- what the status of `repair` says of the files before and after
 abbrev pub TellsRepair : RepairWords → ℕ → Files → Files → Type 0
 TellsRepair words status before after =
     TellsOutcome (HasCheapest words before after) (HasNone words before after)

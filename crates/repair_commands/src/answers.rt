@@ -1,4 +1,4 @@
-//! What the answer of a repair writes.
+//! What `repair` prints and writes for an answer.
 ghost use Rattle.edit_list.specs.EditLists.{AreEdits};
 ghost use Rattle.net_build.specs.Networks.{IsBuiltWithin};
 ghost use Rattle.policy_report.specs.Certificates.{budget_text, IsWholeClaim};
@@ -24,7 +24,7 @@ use run_inputs::Sources;
 use std::alloc::Global;
 
 /// The answer that prints these lines and writes these files, and then the certificate. `Memory`
-/// also if the certificate is longer than one may be.
+/// also if the certificate is longer than `PROOF_LIMIT` bytes.
 fn done_with(
     alloc: Global,
     words: &RepairWords,
@@ -51,7 +51,7 @@ fn done_with(
     })
 }
 
-/// A word, a number and the end of a line.
+/// A line of a word and a number.
 fn number_line(alloc: Global, word: &[u8], number: u64) -> Result<Vec<u8>, Memory>
     ensures { IfOk result (λ text. text.items ≡ word.now ++ decimal number ++ codes "\n") }
 {
@@ -62,7 +62,7 @@ fn number_line(alloc: Global, word: &[u8], number: u64) -> Result<Vec<u8>, Memor
     Ok(text)
 }
 
-/// The first lines of a repair: its price, and its edits.
+/// The first lines of a repair: its price and its edits.
 fn repair_lines(
     alloc: Global,
     net: &Network,
@@ -148,7 +148,7 @@ fn claim_done(
     }
 }
 
-/// What was used up, and what is written of it.
+/// The answer that the conflicts are used up, with a certificate of the log so far.
 fn budget_done(alloc: Global, words: &RepairWords, log: &Log) -> Result<Done, Memory>
     ensures { IfOk result
         (Writes words.now (codes "budget " ++ decimal words.now.conflicts ++ codes "\n") []
@@ -159,8 +159,8 @@ fn budget_done(alloc: Global, words: &RepairWords, log: &Log) -> Result<Done, Me
     done_with(alloc, words, told, List::make(alloc), proof, 3)
 }
 
-/// The answer with what it writes: a repair the changed files and its certificate, and each other
-/// its certificate alone.
+/// The answer with what it writes: the changed files and a certificate for a repair, a certificate
+/// alone for any other answer.
 pub fn answer_done(
     alloc: Global,
     words: &RepairWords,

@@ -8,8 +8,8 @@ ghost use Rattle.run_files.specs.declared.outcome.Done.{Done};
 ghost use Rattle.run_files.specs.declared.outcome.FileRefusal.{FileRefusal};
 ghost use Rattle.std.specs.Prelude.{◌≡◌};
 
-/// What the status of `repair` says; and after 0 the text that is printed has the price and the
-/// edits of the repair that the status is about, and the files that are written.
+/// What the status of `repair` says; after 0 the printed text has the price and the edits of a
+/// cheapest repair, and the names of the written files.
 pub fn repair_is_told()
     ensures status { (words : RepairWords) →
         IsTold (IsRepairRefusal words) (IsRepaired words) (TellsRepair words) }
@@ -17,8 +17,8 @@ pub fn repair_is_told()
         IsRepaired words files done → done.status ≡ 0 → PutsCheapest words files done }
 {}
 
-/// The words and the files give at most one first refusal of `repair`, and never both a refusal and
-/// an answer.
+/// The words and the files give at most one first refusal of `repair`, and never a refusal and an
+/// answer.
 pub fn repair_is_determined()
     ensures one_refusal { (words : RepairWords) (files : Files) (r s : FileRefusal)
         → IsRepairRefusal words files r → IsRepairRefusal words files s → r ≡ s }

@@ -22,7 +22,7 @@ use run_inputs::{fault_stop, read_document, read_sources};
 use run_progress::{Listener, Work};
 use std::alloc::Global;
 
-/// Whether an output has the name of a file that is read, or of another output.
+/// Whether an output would have the name of a file that is read, or of another output.
 fn has_clash(alloc: Global, words: &RepairWords, doc: &Document) -> Result<bool, Memory>
     ensures { IfOk result (λ clash. clash ≡ has_clash words.now doc.now) }
 {

@@ -1,4 +1,4 @@
--- A text is accepted exactly where it is a report of right verdicts.
+-- A text is accepted exactly if it is a report of right verdicts.
 use Rattle.std.proofs.Common.{◌≡◌, ℕ, ◌≤◌, List, [], length, ◌∙◌, ap, subst}
 use Rattle.arc_base.specs.TextLines.{lines}
 use Rattle.net_model.specs.declared.policies.Document.{Document}
@@ -33,7 +33,8 @@ accepted_is_report net doc text valid few h =
 report_is_accepted : (net : Network) (doc : Document) (text : List ℕ) (o : Outcome) → IsValid net → length doc.policies ≤ 4294967295 →
     IsReportOutcome net doc.policies 1 1 (answers net doc [] start (lines text)) o → IsReport net doc text → o ≡ Accepted
 report_is_accepted net doc text o valid few h is =
-    let told : answers net doc [] start (lines text) ≡ report_answers net is.verdicts = ap (answers net doc [] start) is.is_text ∙ reports_are_read_again net doc [] is.verdicts valid few (all_readable net doc.policies is.verdicts is.right is.few) in
+    let told : answers net doc [] start (lines text) ≡ report_answers net is.verdicts =
+    ap (answers net doc [] start) is.is_text ∙ reports_are_read_again net doc [] is.verdicts valid few (all_readable net doc.policies is.verdicts is.right is.few) in
     all_accepted net doc.policies is.verdicts o (right_places net doc.policies is.verdicts is.right) (subst (λ a. IsReportOutcome net doc.policies 1 1 a o) told h)
 
 pub exactly : (net : Network) (doc : Document) (text : List ℕ) (o : Outcome) → IsValid net → length doc.policies ≤ 4294967295 →

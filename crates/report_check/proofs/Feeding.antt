@@ -1,4 +1,4 @@
--- What a line that comes to a judge leads to.
+-- What a line leads to that a judge takes.
 use Rattle.std.proofs.Common.{◌≡◌, ℕ, ◌+◌, Bool, true, false, List, [], ◌∷◌, refl, sym, subst}
 use Rattle.std.specs.Prelude.{Result}
 use Rattle.net_model.specs.declared.policies.Document.{Document}
@@ -17,7 +17,7 @@ use Rattle.report_check.specs.LineByLine.{HasComeTo, IsJudgedTo}
 use Rattle.report_check.specs.Lines.{IsOutcomeAfter, LeadsTo, MayCome}
 use Rattle.report_check.specs.Outcomes.{IsReportOutcome}
 
--- where a line follows, it does not matter what the one before was
+-- if a line follows, it does not matter whether the last one was `end`
 some_follows : (ended : Bool) (net : Network) (policies : List Policy) (first number : ℕ) (told : Result Got CertFault) (rest : List (Result Got CertFault)) (o : Outcome) →
     IsReportOutcome net policies first number (told ∷ rest) o → IsOutcomeAfter ended net policies first number (told ∷ rest) o
 some_follows true net policies first number told rest o h = h
@@ -25,7 +25,7 @@ some_follows false net policies first number told rest o h = h
 
 module _ (net : Network) (doc : Document) (text : List ℕ) (judge : ReportJudge) where
   module _ (line : List ℕ) (rest : List (List ℕ)) (come : HasComeTo net doc text (line ∷ rest) judge) where
-    -- what the reader answers to the line, and to those behind it
+    -- the reader's answers to the line, and to those after it
     abbrev answer : Result Got CertFault
     answer = (step net doc [] (standing judge.reader) line).1
 
@@ -33,7 +33,8 @@ module _ (net : Network) (doc : Document) (text : List ℕ) (judge : ReportJudge
     behind = answers net doc [] (step net doc [] (standing judge.reader) line).0 rest
 
     gone_on : (next : ReportJudge) → standing next.reader ≡ (step net doc [] (standing judge.reader) line).0 → next.number ≡ judge.number + 1 →
-        ((o : Outcome) → IsOutcomeAfter next.ended net doc.policies next.first (judge.number + 1) behind o → IsReportOutcome net doc.policies judge.first judge.number (answer ∷ behind) o) → HasComeTo net doc text rest next
+        ((o : Outcome) → IsOutcomeAfter next.ended net doc.policies next.first (judge.number + 1) behind o →
+        IsReportOutcome net doc.policies judge.first judge.number (answer ∷ behind) o) → HasComeTo net doc text rest next
     gone_on next stands number leads = record {
       outcome = λ o h. come.outcome o (some_follows judge.ended net doc.policies judge.first judge.number answer behind o (leads o
           (subst (λ (n : ℕ). IsOutcomeAfter next.ended net doc.policies next.first n behind o) number
@@ -52,6 +53,6 @@ module _ (net : Network) (doc : Document) (text : List ℕ) (judge : ReportJudge
       pub end_came : next ≡ End → HasComeTo net doc text rest (record { reader = reader; first = judge.first; number = judge.number + 1; ended = true })
       end_came is = gone_on (record { reader = reader; first = judge.first; number = judge.number + 1; ended = true }) (stands (subst MayCome (sym is) tt)) refl (here End is)
 
-      -- the line settles the outcome
+      -- the line decides the outcome
       pub settled : (o : Outcome) → next ≡ Done o → IsJudgedTo net doc text o
       settled o is = come.outcome o (some_follows judge.ended net doc.policies judge.first judge.number answer behind o (here (Done o) is))

@@ -15,7 +15,7 @@ use Rattle.report_check.specs.declared.outcome.Outcome.TheVariants.{Accepted}
 use Rattle.report_check.specs.Outcomes.{IsReportOutcome}
 use Rattle.report_check.proofs.Rights.{accepted_whole}
 
--- answers that begin so and are accepted are those to a report
+-- answers that begin like this and are accepted are those to a report
 accepted_so : (net : Network) (policies : List Policy) (told : List (Result Got CertFault)) → BeginsSo told → IsReportOutcome net policies 1 1 told Accepted → IsWholeReport told
 accepted_so net policies [] begins h = absurd (cc)
 accepted_so net policies (Err fault ∷ rest) begins h = absurd (cc)

@@ -1,4 +1,4 @@
--- What a verdict's line leads to.
+-- What the line of a verdict leads to.
 use Rattle.std.proofs.Common.{◌≡◌, ℕ, ◌+◌, inl, inr, List, ◌∷◌, refl, sym, ◌∙◌, ap, subst}
 use Rattle.std.specs.Prelude.{Result, Ok, Err}
 use Rattle.arc_base.specs.declared.certificate.CertKind.TheVariants.{Witness, Memory}

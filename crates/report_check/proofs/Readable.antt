@@ -1,4 +1,4 @@
--- A right verdict whose lines can be counted can be told in a report.
+-- A right verdict whose lines can be counted can be written in a report.
 use Rattle.std.proofs.Common.{◌≡◌, Bool, ℕ, ◌^◌, ◌<◌, ◌≤◌, List, [], ◌∷◌, length, sym, subst, arith}
 use Rattle.std.specs.Prelude.{All}
 use Rattle.std.specs.List.{AllZip}
@@ -24,13 +24,13 @@ use Rattle.net_model.specs.Witnesses.{IsRight, IsRightFor, IsRightBlocking, IsRi
 use Rattle.net_model.proofs.ServiceRanges.{bounds}
 use Rattle.net_laws.proofs.Cover.{Holds-below}
 use Rattle.policy_report.specs.Reports.{witness_lines, closed_line, path_line}
-use Rattle.policy_report.specs.Rereading.{IsAnswer, IsTold, AreLinks, IsReadable}
+use Rattle.policy_report.specs.Rereading.{MayHaveVerdict, CanBeWritten, AreLinks, IsReadable}
 
 -- an arc of the network is over a link of it
 of_network : (net : Network) (arc : Arc) → IsArc net arc → arc.link < length net.links
 of_network net arc is = slice_get_within net.links arc.link arc.row is.link
 
--- and so are those of a path
+-- the arcs of a path are over links of the network
 path_links : (net : Network) (to : _) (u v : ℕ) (arcs : List Arc) → Path net to u arcs v → AreLinks net (links_of arcs)
 path_links net to u v [] is = All-nil (λ l. l.0 < length net.links)
 path_links net to u v (arc ∷ arcs) is =
@@ -39,9 +39,9 @@ path_links net to u v (arc ∷ arcs) is =
 pub are_links : (net : Network) (ends : Ends) (path : LinkPath) → IsPath net ends path → AreLinks net path.links
 are_links net ends path is = subst (AreLinks net) is.links (path_links net ends.to _ _ is.arcs is.leads)
 
--- the witness of a right verdict can be told
+-- the witness of a right verdict can be written
 told_blocking : (net : Network) (ends : Ends) (kind : PolicyKind) (whole : Class) (v : Verdict) → IsRightBlocking net ends kind whole v →
-    length (witness_lines net v) ≤ 4294967295 → IsTold net v
+    length (witness_lines net v) ≤ 4294967295 → CanBeWritten net v
 told_blocking net ends kind whole (Closed sides) right few = (
   All-weaker (IsRightSide net ends kind whole) (λ s. length s.side ≡ length net.routers) (λ s side. side.closed.flags) sides right.right,
   subst (λ (n : ℕ). n ≤ 4294967295) (length-map sides (closed_line net)) few,
@@ -56,12 +56,12 @@ cut_links : (net : Network) (ends : Ends) (k : ℕ) (whole : Class) (links : Lis
 cut_links net ends k whole links side right =
     All-from (λ l. l.0 < length net.links) links (λ l held. let found = (right.cut l).0 held in subst (λ (n : ℕ). n < length net.links) found.1 (of_network net found.0 found.2.is_arc))
 
--- a service of a range has 24 bits
+-- a service within a range has 24 bits
 serves-below : (s : Service) (n : ℕ) → Serves s n → n < 2 ^ 24
 serves-below s n at = let top : s.high < 2 ^ 24 = s.in_range in omega (arith, top, (bounds s n at).1)
 
 told_reach : (net : Network) (ends : Ends) (k : ℕ) (whole : Class) (v : Verdict) → IsRightReach net ends k whole v →
-    length (witness_lines net v) ≤ 4294967295 → IsTold net v
+    length (witness_lines net v) ≤ 4294967295 → CanBeWritten net v
 told_reach net ends k whole (Paths paths) right few = (
   All-weaker (IsPath net ends) (λ p. AreLinks net p.links) (λ p path. are_links net ends p path) paths right.are_paths,
   subst (λ (n : ℕ). n ≤ 4294967295) (length-map paths path_line) few,
@@ -80,13 +80,13 @@ told_reach net ends k whole (Closed sides) right few = absurd right
 told_reach net ends k whole (Walk class path) right few = absurd right
 
 told_for : (net : Network) (ends : Ends) (kind : PolicyKind) (whole : Class) (v : Verdict) → IsRightFor net ends kind whole v →
-    length (witness_lines net v) ≤ 4294967295 → IsTold net v
+    length (witness_lines net v) ≤ 4294967295 → CanBeWritten net v
 told_for net ends Blocked whole v right few = told_blocking net ends Blocked whole v right few
 told_for net ends Through whole v right few = told_blocking net ends Through whole v right few
 told_for net ends (Reach k) whole v right few = told_reach net ends k whole v right few
 
--- and it is an answer to what the policy asks
-answers_kind : (net : Network) (ends : Ends) (kind : PolicyKind) (whole : Class) (v : Verdict) → IsRightFor net ends kind whole v → IsAnswer kind v
+-- a right verdict is an answer to what the policy asks
+answers_kind : (net : Network) (ends : Ends) (kind : PolicyKind) (whole : Class) (v : Verdict) → IsRightFor net ends kind whole v → MayHaveVerdict kind v
 answers_kind net ends (Reach k) whole (Paths paths) right = tt
 answers_kind net ends (Reach k) whole (Denied class) right = tt
 answers_kind net ends (Reach k) whole (Cut links side) right = tt
@@ -124,7 +124,7 @@ all_readable net (policy ∷ policies) (v ∷ vs) right few = (
 )
 
 -- the lines of a readable verdict can be counted
-few_lines : (net : Network) (kind : PolicyKind) (v : Verdict) → IsAnswer kind v → IsTold net v → length (witness_lines net v) ≤ 4294967295
+few_lines : (net : Network) (kind : PolicyKind) (v : Verdict) → MayHaveVerdict kind v → CanBeWritten net v → length (witness_lines net v) ≤ 4294967295
 few_lines net kind (Closed sides) answer told = subst (λ (n : ℕ). n ≤ 4294967295) (sym (length-map sides (closed_line net))) told.1
 few_lines net kind (Paths paths) answer told = subst (λ (n : ℕ). n ≤ 4294967295) (sym (length-map paths path_line)) told.1
 few_lines net kind (Walk class path) answer told = omega arith

@@ -1,4 +1,4 @@
--- The outcome is that a text is accepted exactly where each line is taken, the last one as the end, and each verdict is right.
+-- A text is accepted exactly if each line is read, the last one as the end, and each verdict is right.
 use Rattle.std.proofs.Common.{append_assoc, ◌≡◌, ℕ, ◌+◌, inl, inr, List, [], ◌∷◌, ◌++◌, subst}
 use Rattle.std.specs.Prelude.{Result, Ok, Err}
 use Rattle.arc_base.specs.declared.certificate.CertKind.TheVariants.{Witness}
@@ -18,7 +18,7 @@ use Rattle.report_check.specs.Outcomes.{IsRightAt, IsReportOutcome}
 not_accepted : (fault : CertFault) → Accepted ≡ Rejected fault → ⊥
 not_accepted fault e = absurd (cc)
 
--- what is accepted is taken whole
+-- an accepted text is read as a whole
 pub accepted_whole : (net : Network) (policies : List Policy) (first number : ℕ) (told : List (Result Got CertFault)) →
     IsReportOutcome net policies first number told Accepted → IsWhole told
 accepted_whole net policies first number [] h = absurd (cc)
@@ -37,7 +37,7 @@ accepted_whole net policies first number (Ok (Verdict which v) ∷ rest) h =
 accepted_whole net policies first number (Ok End ∷ []) h = tt
 accepted_whole net policies first number (Ok End ∷ (told ∷ rest)) h = accepted_whole net policies first (number + 1) (told ∷ rest) h
 
--- the lines of a block that goes on are passed
+-- the lines inside a block are passed
 passed : (net : Network) (policies : List Policy) (first number : ℕ) (ls : List (List ℕ)) (rest : List (Result Got CertFault)) (o : Outcome) →
     IsReportOutcome net policies first number (more ls ++ rest) o → (number : ℕ) × IsReportOutcome net policies first number rest o
 passed net policies first number [] rest o h = (number, h)
@@ -53,7 +53,8 @@ rights_from : (net : Network) (policies : List Policy) (first number which : ℕ
     IsReportOutcome net policies first number (blocks_answers net which vs (Ok End ∷ [])) Accepted → AreRightFrom net policies which vs
 rights_from net policies first number which [] h = tt
 rights_from net policies first number which (v ∷ vs) h =
-    let whole = subst (λ told. IsReportOutcome net policies first number told Accepted) (append_assoc (more (witness_lines net v)) (Ok (Verdict which v) ∷ []) (blocks_answers net (which + 1) vs (Ok End ∷ []))) h in
+    let whole = subst (λ told. IsReportOutcome net policies first number told Accepted)
+    (append_assoc (more (witness_lines net v)) (Ok (Verdict which v) ∷ []) (blocks_answers net (which + 1) vs (Ok End ∷ []))) h in
     let last = passed net policies first number (witness_lines net v) (Ok (Verdict which v) ∷ blocks_answers net (which + 1) vs (Ok End ∷ [])) Accepted whole in
     elim last.1 [
       | inl good ↦ (good.0, rights_from net policies (last.0 + 1) (last.0 + 1) (which + 1) vs good.1)
@@ -65,16 +66,18 @@ accepted_from : (net : Network) (policies : List Policy) (first number which : �
     AreRightFrom net policies which vs → IsReportOutcome net policies first number (blocks_answers net which vs (Ok End ∷ [])) o → o ≡ Accepted
 accepted_from net policies first number which [] o right h = h
 accepted_from net policies first number which (v ∷ vs) o right h =
-    let whole = subst (λ told. IsReportOutcome net policies first number told o) (append_assoc (more (witness_lines net v)) (Ok (Verdict which v) ∷ []) (blocks_answers net (which + 1) vs (Ok End ∷ []))) h in
+    let whole = subst (λ told. IsReportOutcome net policies first number told o)
+    (append_assoc (more (witness_lines net v)) (Ok (Verdict which v) ∷ []) (blocks_answers net (which + 1) vs (Ok End ∷ []))) h in
     let last = passed net policies first number (witness_lines net v) (Ok (Verdict which v) ∷ blocks_answers net (which + 1) vs (Ok End ∷ [])) o whole in
     elim last.1 [
       | inl good ↦ accepted_from net policies (last.0 + 1) (last.0 + 1) (which + 1) vs o right.1 good.1
       | inr bad ↦ absurd (bad.0 right.0)
     ]
 
--- the same of whole reports
+-- a whole report is accepted exactly if each verdict is right
 pub all_right : (net : Network) (policies : List Policy) (vs : List verdicts.Verdict) → IsReportOutcome net policies 1 1 (report_answers net vs) Accepted → AreRightFrom net policies 0 vs
 all_right net policies vs h = rights_from net policies 2 2 0 vs h
 
-pub all_accepted : (net : Network) (policies : List Policy) (vs : List verdicts.Verdict) (o : Outcome) → AreRightFrom net policies 0 vs → IsReportOutcome net policies 1 1 (report_answers net vs) o → o ≡ Accepted
+pub all_accepted : (net : Network) (policies : List Policy) (vs : List verdicts.Verdict) (o : Outcome) → AreRightFrom net policies 0 vs →
+    IsReportOutcome net policies 1 1 (report_answers net vs) o → o ≡ Accepted
 all_accepted net policies vs o right h = accepted_from net policies 2 2 0 vs o right h

@@ -31,7 +31,7 @@ use Rattle.policy_report.proofs.Lengths.{reports_are_short}
 use Rattle.report_check.specs.Lengths.{HasFewLines, HasFewFailures, RightReportsAreShort}
 use Rattle.report_check.proofs.Readable.{all_readable, are_links}
 
--- different numbers below a bound are no more than it
+-- there are no more different numbers below a bound than the bound
 any_below : (n q : ℕ) (xs : List ℕ) → All (λ x. x < n) xs → list_any (λ x. q == x) xs ≡ true → q < n
 any_below n q [] h e = absurd (false≢true e)
 any_below n q (x ∷ xs) h e = by (q == x) refl (any_below n q xs (All-tail (λ x. x < n) x xs h)) e
@@ -44,7 +44,7 @@ few_below : (n : ℕ) (xs : List ℕ) → All (λ x. x < n) xs → AllPairs (λ 
 few_below n xs below apart =
     length-le_from_distinct_below xs n (IsDistinct-from_apart (λ a b. a == b) xs (λ i j d l m. ne_eqb _ _ (apart i j d l m))) (λ q e. any_below n q xs below e)
 
--- links of a network, no two of them the same
+-- different links of a network are few
 few_links : (net : Network) → IsValid net → (links : List Link) → AreLinks net links → AllPairs (λ l m. l ≢ m) links → length links ≤ 1024
 few_links net valid links are apart =
     let places : List ℕ = map (λ (l : Link). l.0) links in
@@ -60,7 +60,7 @@ few_links net valid links are apart =
     below (l ∷ ls) h =
         All-cons (λ k. k < length net.links) l.0 (map (λ (l : Link). l.0) ls) (All-head (λ l. l.0 < length net.links) l ls h) (below ls (All-tail (λ l. l.0 < length net.links) l ls h))
 
--- the links of a path that repeats no router
+-- the links of a path that repeats no router are few
 path_routers : (net : Network) (valid : IsValid net) (to : _) (u v : ℕ) (arcs : List Arc) → Path net to u arcs v → All (λ r. r < length net.routers) (map head_router arcs)
 path_routers net valid to u v [] is = All-nil (λ r. r < length net.routers)
 path_routers net valid to u v (arc ∷ arcs) is =
@@ -74,7 +74,7 @@ walk_links net valid to u v arcs is once =
     let link : Arc → Link = λ arc. record { 0 = arc.link } in
     omega (arith, heads, length-map arcs head_router, length-map arcs link)
 
--- a front of a list whose items are all different
+-- the items at the front of a list are related as all are
 front_apart : {X : Type 0} (R : X → X → Type 0) (xs ys : List X) → AllPairs R (xs ++ ys) → AllPairs R xs
 front_apart {X} R xs ys all i j d l m =
     let short : j < length (xs ++ ys) = omega (arith, m, length-append xs ys) in
@@ -85,7 +85,7 @@ rest_apart : {X : Type 0} (R : X → X → Type 0) (xs ys : List X) → AllPairs
 rest_apart R [] ys all = all
 rest_apart R (x ∷ xs) ys all = rest_apart R xs ys (AllPairs-rest R x (xs ++ ys) all)
 
--- paths that share no link
+-- the links of link-disjoint paths are few
 paths_links : (net : Network) → IsValid net → (paths : List LinkPath) → All (λ p. AreLinks net p.links) paths → AllPairs (λ l m. l ≢ m) (flat_map (λ path. path.links) paths) →
     All (λ p. length p.links ≤ 1024) paths
 paths_links net valid [] are once = All-nil (λ (p : LinkPath). length p.links ≤ 1024)
@@ -122,7 +122,8 @@ short_for net ends Blocked whole v valid right small few = short_blocking net en
 short_for net ends Through whole v valid right small few = short_blocking net ends Through whole v valid right few
 short_for net ends (Reach k) whole v valid right small few = short_reach net ends k whole v valid right small few
 
-all_short : (net : Network) (policies : List Policy) (vs : List Verdict) → IsValid net → AllZip (IsRight net) policies vs → All (λ p. HasFewFailures p.kind) policies → All (HasFewLines net) vs → All IsShort vs
+all_short : (net : Network) (policies : List Policy) (vs : List Verdict) → IsValid net → AllZip (IsRight net) policies vs →
+    All (λ p. HasFewFailures p.kind) policies → All (HasFewLines net) vs → All IsShort vs
 all_short net [] [] valid right small few = All-nil IsShort
 all_short net [] (v ∷ vs) valid right small few = absurd right
 all_short net (policy ∷ policies) [] valid right small few = absurd right

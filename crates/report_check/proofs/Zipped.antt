@@ -12,7 +12,7 @@ use Rattle.net_model.specs.Witnesses.{IsRight}
 use Rattle.report_check.specs.Outcomes.{IsRightAt}
 use Rattle.report_check.proofs.Rights.{AreRightFrom}
 
--- the policy behind those that are done
+-- the policy after those that are done
 next_policy : (done : List Policy) (policy : Policy) (todo : List Policy) → slice_get (done ++ policy ∷ todo) (length done) ≡ Some policy
 next_policy done policy todo =
     slice_get_read (done ++ policy ∷ todo) (length (done ++ policy ∷ todo)) (length done) policy refl
@@ -27,7 +27,7 @@ right_at net done policy todo v h = subst (λ (o : Option Policy). IsSomeAnd o (
 at_right : (net : Network) (done : List Policy) (policy : Policy) (todo : List Policy) (v : Verdict) → IsRight net policy v → IsRightAt net (done ++ policy ∷ todo) (length done) v
 at_right net done policy todo v h = subst (λ (o : Option Policy). IsSomeAnd o (λ p. IsRight net p v)) (sym (next_policy done policy todo)) h
 
--- the same list and place, with one more policy done
+-- the list and the place, with one more policy done
 moved : (net : Network) (done : List Policy) (policy : Policy) (todo : List Policy) (vs : List Verdict) →
     AreRightFrom net (done ++ policy ∷ todo) (length done + 1) vs → AreRightFrom net ((done ++ policy ∷ []) ++ todo) (length (done ++ policy ∷ [])) vs
 moved net done policy todo vs h =
@@ -55,7 +55,7 @@ rest_places net done (policy ∷ todo) [] zip = absurd zip
 rest_places net done (policy ∷ todo) (v ∷ vs) zip =
     (at_right net done policy todo v zip.0, moved_back net done policy todo vs (rest_places net (done ++ policy ∷ []) todo vs zip.1))
 
--- where each verdict has its policy, right places are right verdicts
+-- if each verdict has its policy, verdicts that are right at their places are right
 pub right_zip : (net : Network) (R : Policy → Verdict → Type 0) (policies : List Policy) (vs : List Verdict) → AllZip R policies vs → AreRightFrom net policies 0 vs → AllZip (IsRight net) policies vs
 right_zip net R policies vs zip right = rest_zip net R [] policies vs zip right
 

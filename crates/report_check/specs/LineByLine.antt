@@ -10,13 +10,13 @@ use Rattle.report_check.specs.declared.outcome.Outcome.{Outcome}
 use Rattle.report_check.specs.Lines.{IsOutcomeAfter}
 use Rattle.report_check.specs.Outcomes.{IsReportOutcome}
 
--- this is what the text is judged to
+-- this is the outcome of the text
 abbrev pub IsJudgedTo : Network → Document → List ℕ → Outcome → Type 0
 IsJudgedTo net doc text o =
     IsReportOutcome net doc.policies 1 1 (answers net doc [] start (lines text)) o
 
--- The lines of the text came to the judge up to these: what these lead to is what the whole text is
--- judged to.
+-- The judge has taken the lines of the text up to these: the outcome of these is that of the whole
+-- text.
 pub record HasComeTo (net : Network) (doc : Document) (text : List ℕ) (ls : List (List ℕ))
     (judge : ReportJudge) : Type 0 where
   pub outcome : (o : Outcome) →

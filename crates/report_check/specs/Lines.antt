@@ -1,4 +1,4 @@
--- One line of the judgement.
+-- Judging one line.
 use Rattle.std.specs.Prelude.{◌≡◌, ℕ, ◌+◌, Bool, true, false, List, [], ◌∷◌, Result}
 use Rattle.net_model.specs.declared.policies.Policy.{Policy}
 use Rattle.net_model.specs.declared.rows.Network.{Network}
@@ -16,8 +16,8 @@ MayCome (Line begins) = Unit {0}
 MayCome End = Unit {0}
 MayCome (Done o) = ⊥
 
--- the outcome by the lines that are left, by whether the line before was the end: then there need
--- be none
+-- the outcome, given the answers to the lines that are left and whether the last line was `end`,
+-- after which none need follow
 abbrev pub IsOutcomeAfter : Bool → Network → List Policy → ℕ → ℕ →
     List (Result Got CertFault) → Outcome → Type 0
 IsOutcomeAfter true net policies first number [] o = o ≡ Accepted
@@ -26,7 +26,7 @@ IsOutcomeAfter true net policies first number (told ∷ rest) o =
 IsOutcomeAfter false net policies first number told o =
     IsReportOutcome net policies first number told o
 
--- what a line's answer leads to: to an outcome, or to that of the rest
+-- what the answer to a line leads to: an outcome, or that of the lines after it
 abbrev pub LeadsTo : Network → List Policy → ℕ → ℕ → Result Got CertFault →
     List (Result Got CertFault) → Next → Type 0
 LeadsTo net policies first number told rest (Line begins) =

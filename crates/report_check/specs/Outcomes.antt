@@ -1,6 +1,6 @@
--- What the text of a report is judged to. A report is a text whose lines are those of a report of
--- right verdicts, one for each policy in order. Of any other text the first line that is not of the
--- form is answered, or the first line of the first block whose verdict is not right.
+-- The outcome of judging a text as a report. A report is a text whose lines are those of a report
+-- of right verdicts, one for each policy in order. For any other text the outcome is the first line
+-- that is not of its form, or the first line of the first block whose verdict is not right.
 use Rattle.std.specs.Prelude.{◌≡◌, ◌↔◌, ◌⊎◌, ℕ, ◌+◌, ◌≤◌, List, [], ◌∷◌, length, All, Result, Ok}
 use Rattle.std.specs.Prelude.{Err, IsSomeAnd, slice_get}
 use Rattle.std.specs.List.{AllZip}
@@ -27,10 +27,10 @@ abbrev pub IsRightAt : Network → List Policy → ℕ → verdicts.Verdict → 
 IsRightAt net policies which v =
     IsSomeAnd (slice_get policies which) (λ policy. IsRight net policy v)
 
--- The outcome by what a reader answers to the lines that are left. The next line has this number,
--- and the block that it belongs to begins at `first`. What counts is the first line that is
--- rejected, or the first verdict that is not right, at the first line of its block, or else whether
--- the last line is the end. What belongs to a repair is no line of a report.
+-- The outcome, given the reader's answers to the lines that are left. The next line has this
+-- number, and its block begins at line `first`. What counts is the first line that is rejected, or
+-- the first verdict that is not right, at the first line of its block, or else whether the last
+-- line is `end`. A line that only the certificate of a repair has is rejected.
 abbrev pub IsReportOutcome : Network → List Policy → ℕ → ℕ →
     List (Result Got CertFault) → Outcome → Type 0
 IsReportOutcome net policies first number [] o =
@@ -51,15 +51,14 @@ IsReportOutcome net policies first number (Ok other ∷ rest) o =
     o ≡ Rejected (record { line = number; kind = Form })
 
 -- the text is a report of right verdicts on the policies of the document, one for each: its lines
--- are those of that report;
--- the lines of each witness can be counted in 32 bits
+-- are those of that report, and the lines of each witness can be counted in 32 bits
 pub record IsReport (net : Network) (doc : Document) (text : List ℕ) : Type 0 where
   pub verdicts : List verdicts.Verdict
   pub right : AllZip (IsRight net) doc.policies verdicts
   pub few : All (λ v. length (witness_lines net v) ≤ 4294967295) verdicts
   pub is_text : lines text ≡ lines (report_text net doc verdicts)
 
--- the judgement of a text says exactly whether it is a report
+-- a text is accepted exactly if it is a report of right verdicts
 abbrev pub ReportsAreAccepted : Type 0
 ReportsAreAccepted =
     (net : Network) (doc : Document) (text : List ℕ) (o : Outcome) → IsValid net →
@@ -68,8 +67,8 @@ ReportsAreAccepted =
     (o ≡ Accepted) ↔ IsReport net doc text
 
 -- a text has one outcome
-abbrev pub HasOneOutcome : Type 0
-HasOneOutcome =
+abbrev pub ReportHasOneOutcome : Type 0
+ReportHasOneOutcome =
     (net : Network) (policies : List Policy) (first number : ℕ)
     (told : List (Result Got CertFault)) (o p : Outcome) →
     IsReportOutcome net policies first number told o →

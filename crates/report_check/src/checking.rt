@@ -1,12 +1,12 @@
-//! The judgement of a text that is at hand whole.
-ghost use Rattle.std.specs.Prelude.{◌≡◌, ◌↔◌, ◌≤◌, [], length, All, IfOk};
+//! Judging a text as a whole.
 ghost use Rattle.arc_base.specs.TextLines.{lines};
-ghost use Rattle.net_model.specs.Packets.{subject};
 ghost use Rattle.net_model.specs.Forwarding.{HasEnds};
+ghost use Rattle.net_model.specs.Packets.{subject};
 ghost use Rattle.net_model.specs.Validity.{IsValid};
 ghost use Rattle.policy_report.specs.Rereading.{answers};
 ghost use Rattle.policy_report.specs.Steps.{start};
 ghost use Rattle.report_check.specs.Outcomes.{IsReportOutcome, IsReport};
+ghost use Rattle.std.specs.Prelude.{◌≡◌, ◌↔◌, ◌≤◌, [], length, All, IfOk};
 
 use crate::judge::ReportJudge;
 use crate::laws::reports_are_accepted;
@@ -16,7 +16,7 @@ use net_model::{Document, Network};
 use std::alloc::Global;
 use std::ops::ControlFlow;
 
-/// Judges a text as a report over the network, for the policies of the document: line by line, as a
+/// Judges a text as a report on the policies of the document over the network, line by line as a
 /// `ReportJudge` does.
 pub fn check_report(
     alloc: Global,

@@ -1,10 +1,10 @@
-//! The judgement of a text whose lines come one by one.
-ghost use Rattle.std.specs.Prelude.{◌≡◌, ◌+◌, ◌<◌, ◌∷◌, ℕ, [], List, All, IfOk, IfSome};
-ghost use Rattle.std.specs.ControlFlow.{continue_value, MatchControlFlow};
+//! Judging a text line by line.
 ghost use Rattle.arc_base.specs.TextLines.{lines};
 ghost use Rattle.net_model.specs.Forwarding.{HasEnds};
 ghost use Rattle.net_model.specs.Packets.{subject};
 ghost use Rattle.net_model.specs.Validity.{IsValid};
+ghost use Rattle.std.specs.ControlFlow.{continue_value, MatchControlFlow};
+ghost use Rattle.std.specs.Prelude.{◌≡◌, ◌+◌, ◌<◌, ◌∷◌, ℕ, [], List, All, IfOk, IfSome};
 
 use crate::judging::{Next, judge_line};
 use crate::outcome::Outcome;
@@ -14,22 +14,22 @@ use policy_report::{CertFault, Reader};
 use std::alloc::Global;
 use std::ops::ControlFlow;
 
-/// The judgement of a report, up to the line that comes next. It holds the block that is not at its
-/// end, but no line. All calls are made with the same network and document.
+/// The state of judging a report, before its next line. It holds what was read of the current
+/// block, but no line. All calls take the same network and document.
 #[derive(Drop)]
 pub struct ReportJudge {
     reader: Reader,
-    // The block of the next line begins at this line.
+    // The line where the block of the next line begins.
     first: u64,
     number: u64,
-    // Whether the line before was the end.
+    // Whether the last line was `end`.
     ended: bool,
 }
 
 impl ReportJudge {
     ghost use Rattle.report_check.specs.LineByLine.{HasComeTo, IsJudgedTo};
 
-    /// A judge to whom no line came.
+    /// A judge before the first line.
     pub fn make(alloc: Global) -> ReportJudge
         ensures come { (net : Network) (doc : Document) (text : List ℕ) →
             HasComeTo net doc text (lines text) result }
@@ -43,10 +43,11 @@ impl ReportJudge {
         }
     }
 
-    /// Judges the next line, without its line feed: another may come, or this is the outcome,
-    /// whatever follows. Reading a line takes time linear in its bytes, and for a `closed` or
-    /// `side` line in the routers. A witness is judged by going over the network for each of its
-    /// lines; the `closed` lines of a block are also compared pair by pair.
+    /// Judges the next line, given without its line feed: `Continue` if another may come, `Break`
+    /// with the outcome if it is known whatever follows. Reading a line takes time linear in its
+    /// bytes, and for a `closed` or `side` line in the routers. A witness is judged by going over
+    /// the network for each of its lines; the `closed` lines of a block are also compared pair by
+    /// pair.
     pub fn line(
         self,
         net: &Network,
@@ -81,7 +82,7 @@ impl ReportJudge {
         }
     }
 
-    /// The outcome where no other line comes.
+    /// The outcome if no other line comes.
     pub fn end(self) -> Outcome
         ensures { (net : Network) (doc : Document) (text : List ℕ) →
             HasComeTo net doc text [] self → IsJudgedTo net doc text result }

@@ -1,11 +1,11 @@
-//! The judgement of one line of a report.
-ghost use Rattle.std.specs.Prelude.{◌≡◌, ◌↔◌, ◌<◌, [], List, Result, All, IfOk, IsTrue};
-ghost use Rattle.net_model.specs.Packets.{subject};
+//! Judging one line of a report.
 ghost use Rattle.net_model.specs.Forwarding.{HasEnds};
+ghost use Rattle.net_model.specs.Packets.{subject};
 ghost use Rattle.net_model.specs.Validity.{IsValid};
 ghost use Rattle.policy_report.specs.Steps.{standing, step};
-ghost use Rattle.report_check.specs.Outcomes.{IsRightAt};
 ghost use Rattle.report_check.specs.Lines.{LeadsTo, MayCome};
+ghost use Rattle.report_check.specs.Outcomes.{IsRightAt};
+ghost use Rattle.std.specs.Prelude.{◌≡◌, ◌↔◌, ◌<◌, [], List, Result, All, IfOk, IsTrue};
 
 use crate::outcome::Outcome;
 use arc_base::{CertKind, Memory};
@@ -25,18 +25,18 @@ pub fn is_right_at(net: &Network, policies: &[Policy], which: u32, verdict: &Ver
     }
 }
 
-/// What comes after a line.
+/// What follows a line.
 #[derive(Clone, Copy)]
 pub(crate) enum Next {
-    /// The next line, of a block that begins at this line.
+    /// Another line, of the block that begins at this line.
     Line(u64),
-    /// Nothing has to: this line is the end.
+    /// The text may end: this line was `end`.
     End,
     /// Nothing: this is the outcome.
     Done(Outcome),
 }
 
-/// What comes after a line, with this number, that belongs to a repair.
+/// What follows a line that only the certificate of a repair has: its number is rejected.
 fn no_report(number: u64) -> Next
     ensures { result
         ≡ Next.Done (Outcome.Rejected (record { line = number; kind = CertKind.Form })) }
@@ -47,7 +47,7 @@ fn no_report(number: u64) -> Next
     }))
 }
 
-/// Judges a line, which has this number and belongs to a block that begins at `first`.
+/// Judges the line of this number, whose block begins at line `first`.
 pub(crate) fn judge_line(
     net: &Network,
     doc: &Document,

@@ -41,7 +41,8 @@ relaxed_more was xs i step from now within is inside before u =
           (same_set (λ n. (was u ≡ Some n) ⊎ IsGiven (take i xs) from u n) (λ n. (was u ≡ Some n) ⊎ IsGiven (take (i + 1) xs) from u n) (distance_map now u)
           (λ k h. ⊎_elim (λ (e : was u ≡ Some k). inl e) (λ (g : IsGiven (take i xs) from u k). inr (stays k g)) h)
           (λ k h. ⊎_elim (λ (e : was u ≡ Some k). inl e)
-          (λ (g : IsGiven (take (i + 1) xs) from u k). ⊎_elim (λ (old : IsGiven (take i xs) from u k). inr old) (λ (new : (step.tail.0 ≡ u) × (k ≡ from + step.cost)). absurd (off (sym new.0))) (cases k g)) h)
+          (λ (g : IsGiven (take (i + 1) xs) from u k). ⊎_elim (λ (old : IsGiven (take i xs) from u k). inr old)
+          (λ (new : (step.tail.0 ≡ u) × (k ≡ from + step.cost)). absurd (off (sym new.0))) (cases k g)) h)
           (before u))
       | inl at ↦
           let same : distance_map (set now step.tail.0 (Some (lesser (get_or now step.tail.0 None) (from + step.cost)))) u ≡

@@ -1,12 +1,12 @@
 //! Stable distances by Dijkstra's algorithm (RFC 2328, section 16.1) over a binary heap: for V
 //! routers and E arcs in O((V + E) log E) time.
-ghost use Rattle.std.specs.Prelude.{◌≡◌, ◌+◌, ◌^◌, ◌<◌, ◌⊎◌, ℕ, false, true, None, Some, length};
-ghost use Rattle.std.specs.Prelude.{slice_set, replicate, All, IfOk, IfSome, MatchOption, OnOk};
-ghost use Rattle.std.specs.BinaryHeap.{heap_items};
+ghost use Rattle.route_trace.specs.Queue.{IsQueue, is_nearer};
 ghost use Rattle.route_trace.specs.Routes.{distance_map};
 ghost use Rattle.route_trace.specs.Steps.{IsFit, IsGiven, IsLeastOf, IsStableOver, IsNearest};
 ghost use Rattle.route_trace.specs.Steps.{waiting, lesser};
-ghost use Rattle.route_trace.specs.Queue.{IsQueue, is_nearer};
+ghost use Rattle.std.specs.BinaryHeap.{heap_items};
+ghost use Rattle.std.specs.Prelude.{◌≡◌, ◌+◌, ◌^◌, ◌<◌, ◌⊎◌, ℕ, false, true, None, Some, length};
+ghost use Rattle.std.specs.Prelude.{slice_set, replicate, All, IfOk, IfSome, MatchOption, OnOk};
 
 use crate::groups::grouped;
 use crate::steps::{End, Step};

@@ -1,6 +1,6 @@
 //! The usable arcs by the router at one end, in time linear in their number.
-ghost use Rattle.std.specs.Prelude.{◌<◌, [], All, IfOk};
 ghost use Rattle.route_trace.specs.Steps.{end_router, AreGroups};
+ghost use Rattle.std.specs.Prelude.{◌<◌, [], All, IfOk};
 
 use crate::steps::{End, Step};
 use arc_base::Memory;

@@ -1,9 +1,9 @@
 //! Next hops: the links over which a router attains its distance. Each call looks at each arc once.
-ghost use Rattle.std.specs.Prelude.{◌≡◌, ◌<◌, [], None, length, IfOk};
 ghost use Rattle.net_model.specs.Validity.{IsValid};
 ghost use Rattle.route_trace.specs.Routes.{flagged, distance_map, IsHostNetwork, AreDistances};
 ghost use Rattle.route_trace.specs.Routes.{AreNextHops, Owns};
 ghost use Rattle.route_trace.specs.Steps.{is_sum, is_hop, hops_of};
+ghost use Rattle.std.specs.Prelude.{◌≡◌, ◌<◌, [], None, length, IfOk};
 
 use crate::steps::{Step, steps};
 use arc_base::{Link, List, Memory, Prefix, Router};

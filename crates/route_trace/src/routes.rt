@@ -1,7 +1,7 @@
 //! The stable distances of a network to a host network.
-ghost use Rattle.std.specs.Prelude.{◌≡◌, ◌↔◌, Some, length, IfOk, IfSome, IfNone, IsTrue};
 ghost use Rattle.net_model.specs.Validity.{IsValid};
 ghost use Rattle.route_trace.specs.Routes.{flagged, IsHostNetwork, Owns, AreDistances, TellReach};
+ghost use Rattle.std.specs.Prelude.{◌≡◌, ◌↔◌, Some, length, IfOk, IfSome, IfNone, IsTrue};
 
 use crate::front::settle;
 use crate::steps::steps;

@@ -1,11 +1,11 @@
 //! The usable arcs of a network.
-ghost use Rattle.std.specs.Prelude.{◌≡◌, ◌++◌, false, length, All, IfOk, IfSome, IfNone, IsTrue};
-ghost use Rattle.std.specs.Prelude.{OnOk};
-ghost use Rattle.std.specs.Option.{option_to_list};
-ghost use Rattle.net_model.specs.Validity.{IsValid};
 ghost use Rattle.net_model.specs.Routing.{cost_at, Arc};
+ghost use Rattle.net_model.specs.Validity.{IsValid};
 ghost use Rattle.route_trace.specs.Routes.{flagged};
 ghost use Rattle.route_trace.specs.Steps.{IsStepAt, HasNoArc, flag_of, AreSteps, IsFit, end_router};
+ghost use Rattle.std.specs.Option.{option_to_list};
+ghost use Rattle.std.specs.Prelude.{◌≡◌, ◌++◌, false, length, All, IfOk, IfSome, IfNone, IsTrue};
+ghost use Rattle.std.specs.Prelude.{OnOk};
 
 use arc_base::{Link, Memory, Prefix, Router};
 use net_model::{FaceRow, Network, Protocol, RoutedLink};

@@ -1,11 +1,11 @@
 //! The text of a trace.
-ghost use Rattle.std.specs.Prelude.{◌≡◌, ◌++◌, length, All, IfOk, OnOk};
-ghost use Rattle.net_model.specs.Validity.{IsValid};
 ghost use Rattle.net_model.specs.Forwarding.{HasHost};
+ghost use Rattle.net_model.specs.Validity.{IsValid};
 ghost use Rattle.route_trace.specs.Routes.{flagged, distance_map};
 ghost use Rattle.route_trace.specs.Steps.{IsFit, hops_of};
 ghost use Rattle.route_trace.specs.TraceText.{router_name, end_text, trace_head, hops_text};
 ghost use Rattle.route_trace.specs.TraceText.{route_text, route_line, route_lines, IsTrace};
+ghost use Rattle.std.specs.Prelude.{◌≡◌, ◌++◌, length, All, IfOk, OnOk};
 
 use crate::front::settle;
 use crate::groups::grouped;

@@ -33,7 +33,8 @@ module _ (name : List ℕ) (Come : List ℕ → List (List ℕ) → Type 0) wher
     with_line : (line : List ℕ) → line ≡ after.line.items → IfSome now (λ files. MovesOn files name before after (Ok true)) →
         IfSome held (λ files. StandsAt (line ∷ left_lines files name after) files)
     with_line line is moves =
-        told_and {P = λ files. StandsAt (left_lines files name before) files} {Q = λ files. MovesOn files name before after (Ok true)} {R = λ files. StandsAt (line ∷ left_lines files name after) files}
+        told_and {P = λ files. StandsAt (left_lines files name before) files} {Q = λ files. MovesOn files name before after (Ok true)}
+        {R = λ files. StandsAt (line ∷ left_lines files name after) files}
         held now same
         (λ files at first. subst (λ (ls : List (List ℕ)). StandsAt ls files) (lines_of_first _ _ _ first ∙ ap (λ (l : List ℕ). l ∷ left_lines files name after) (sym is)) at)
         stands moves

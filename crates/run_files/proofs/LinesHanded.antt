@@ -38,7 +38,8 @@ handed [] text h = sym (ap lines h)
 handed (line ∷ ls) text h = ap (λ (rest : List (List ℕ)). line ∷ rest) (handed ls h.0 h.1.1) ∙ sym (lines_of_first text line h.0 h.1.0)
 
 -- a byte before the first line belongs to it
-split_on : (b : ℕ) (bytes line rest : List ℕ) → (bytes ≡ line ++ 10 ∷ rest) ⊎ ((bytes ≡ line) × ((0 < length line) × (rest ≡ []))) → (b ∷ bytes ≡ (b ∷ line) ++ 10 ∷ rest) ⊎ ((b ∷ bytes ≡ b ∷ line) × ((0 < length (b ∷ line)) × (rest ≡ [])))
+split_on : (b : ℕ) (bytes line rest : List ℕ) → (bytes ≡ line ++ 10 ∷ rest) ⊎ ((bytes ≡ line) × ((0 < length line) × (rest ≡ []))) →
+    (b ∷ bytes ≡ (b ∷ line) ++ 10 ∷ rest) ⊎ ((b ∷ bytes ≡ b ∷ line) × ((0 < length (b ∷ line)) × (rest ≡ [])))
 split_on b bytes line rest (inl e) = inl (ap (λ (l : List ℕ). b ∷ l) e)
 split_on b bytes line rest (inr e) = inr (ap (λ (l : List ℕ). b ∷ l) e.0, (omega arith, e.1.1))
 

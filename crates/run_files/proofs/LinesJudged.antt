@@ -14,7 +14,8 @@ module _ {J O : Type 0} (LeadsTo : J → List (List ℕ) → O → Type 0) (Refu
   pub from_here : (judge : J) (ls : List (List ℕ)) → LeadsOn LeadsTo Refuses judge ls ls judge
   from_here judge ls = record { outcomes = λ o is. is; refusals = λ r is. is }
 
-  pub leads_on : (judge then' next : J) (all ls rest : List (List ℕ)) → LeadsOn LeadsTo Refuses judge all ls then' → LeadsOn LeadsTo Refuses then' ls rest next → LeadsOn LeadsTo Refuses judge all rest next
+  pub leads_on : (judge then' next : J) (all ls rest : List (List ℕ)) → LeadsOn LeadsTo Refuses judge all ls then' →
+      LeadsOn LeadsTo Refuses then' ls rest next → LeadsOn LeadsTo Refuses judge all rest next
   leads_on judge then' next all ls rest before after = record {
     outcomes = λ o is. before.outcomes o (after.outcomes o is);
     refusals = λ r is. before.refusals r (after.refusals r is);
@@ -28,8 +29,10 @@ module _ {J O : Type 0} (LeadsTo : J → List (List ℕ) → O → Type 0) (Refu
     stopped IsRight stops.Failed is = tt
 
 -- what judging the text of a file tells, in words of one's own
-module _ {O : Type 0} (LeadsTo : List (List ℕ) → O → Type 0) (Refuses : List (List ℕ) → FileRefusal → Type 0) (limit : ℕ) (name : List ℕ) (IsRefusal : Files → FileRefusal → Type 0) (IsRight : Files → O → Type 0)
-    (of_file : (files : Files) (r : FileRefusal) → read_refusal limit files name ≡ Some r → IsRefusal files r) (of_judge : (files : Files) (r : FileRefusal) → Refuses (lines (bytes_at files name)) r → IsRefusal files r)
+module _ {O : Type 0} (LeadsTo : List (List ℕ) → O → Type 0) (Refuses : List (List ℕ) → FileRefusal → Type 0) (limit : ℕ) (name : List ℕ) (IsRefusal : Files → FileRefusal → Type 0)
+    (IsRight : Files → O → Type 0)
+    (of_file : (files : Files) (r : FileRefusal) → read_refusal limit files name ≡ Some r → IsRefusal files r)
+    (of_judge : (files : Files) (r : FileRefusal) → Refuses (lines (bytes_at files name)) r → IsRefusal files r)
     (right : (files : Files) (o : O) → LeadsTo (lines (bytes_at files name)) o → IsRight files o) where
   judged_here : (files : Files) (result : Result O Stop) → JudgesText LeadsTo Refuses limit files name result → Gives (IsRefusal files) (IsRight files) result
   judged_here files (Ok o) is = right files o is
@@ -38,6 +41,7 @@ module _ {O : Type 0} (LeadsTo : List (List ℕ) → O → Type 0) (Refuses : Li
   judged_here files (Err stops.Memory) is = tt
   judged_here files (Err stops.Failed) is = tt
 
-  pub text_judged : (held : Option Files) (result : Result O Stop) → IfSome held (λ files. JudgesText LeadsTo Refuses limit files name result) → IfSome held (λ files. Gives (IsRefusal files) (IsRight files) result)
+  pub text_judged : (held : Option Files) (result : Result O Stop) → IfSome held (λ files. JudgesText LeadsTo Refuses limit files name result) →
+      IfSome held (λ files. Gives (IsRefusal files) (IsRight files) result)
   text_judged None result is = tt
   text_judged (Some files) result is = judged_here files result is

@@ -32,32 +32,37 @@ not_read file place limit buf Memory read = tt
 
 -- the same of a store that may tell what it holds
 module _ (name : List ℕ) where
-  pub told_further : (held before : Option Files) (place n : ℕ) (buf : List ℕ) → before ≡ held → IfSome held (λ f. place ≤ length (bytes_at f name)) → IfSome before (λ f. Reads (f name) place (Ok n) buf) → IfSome held (λ f. place + n ≤ length (bytes_at f name))
+  pub told_further : (held before : Option Files) (place n : ℕ) (buf : List ℕ) → before ≡ held → IfSome held (λ f. place ≤ length (bytes_at f name)) →
+      IfSome before (λ f. Reads (f name) place (Ok n) buf) → IfSome held (λ f. place + n ≤ length (bytes_at f name))
   told_further None before place n buf same reached read = tt
   told_further (Some f) None place n buf same reached read = cc
   told_further (Some f) (Some b) place n buf same reached read =
       let one : b ≡ f = cc in
       further (f name) place n buf reached (subst (λ (h : Files). Reads (h name) place (Ok n) buf) one read)
 
-  pub told_took : (held : Option Files) (limit n before after : ℕ) → IfSome held (λ f. IsReadPast (f name) limit (Ok n)) → TookJust n before after → IfSome held (λ f. TookJust (length (bytes_at f name)) before after)
+  pub told_took : (held : Option Files) (limit n before after : ℕ) → IfSome held (λ f. IsReadPast (f name) limit (Ok n)) → TookJust n before after →
+      IfSome held (λ f. TookJust (length (bytes_at f name)) before after)
   told_took None limit n before after past took = tt
   told_took (Some f) limit n before after past took = took_whole (f name) limit n before after past took
 
-  pub told_end : (held before : Option Files) (place limit n : ℕ) (buf : List ℕ) → before ≡ held → n ≡ 0 → place ≤ limit → IfSome held (λ f. place ≤ length (bytes_at f name)) → IfSome before (λ f. Reads (f name) place (Ok n) buf) → IfSome held (λ f. IsReadPast (f name) limit (Ok place))
+  pub told_end : (held before : Option Files) (place limit n : ℕ) (buf : List ℕ) → before ≡ held → n ≡ 0 → place ≤ limit →
+      IfSome held (λ f. place ≤ length (bytes_at f name)) → IfSome before (λ f. Reads (f name) place (Ok n) buf) → IfSome held (λ f. IsReadPast (f name) limit (Ok place))
   told_end None before place limit n buf same none few reached read = tt
   told_end (Some f) None place limit n buf same none few reached read = cc
   told_end (Some f) (Some b) place limit n buf same none few reached read =
       let one : b ≡ f = cc in
       at_end (f name) place limit n buf none few reached (subst (λ (h : Files). Reads (h name) place (Ok n) buf) one read)
 
-  pub told_too_many : (held before : Option Files) (place limit n : ℕ) (buf : List ℕ) → before ≡ held → limit - place < n → place ≤ limit → IfSome before (λ f. Reads (f name) place (Ok n) buf) → IfSome held (λ f. IsReadPast (f name) limit (Err TooLong))
+  pub told_too_many : (held before : Option Files) (place limit n : ℕ) (buf : List ℕ) → before ≡ held → limit - place < n → place ≤ limit →
+      IfSome before (λ f. Reads (f name) place (Ok n) buf) → IfSome held (λ f. IsReadPast (f name) limit (Err TooLong))
   told_too_many None before place limit n buf same more few read = tt
   told_too_many (Some f) None place limit n buf same more few read = cc
   told_too_many (Some f) (Some b) place limit n buf same more few read =
       let one : b ≡ f = cc in
       too_many (f name) place limit n buf more few (subst (λ (h : Files). Reads (h name) place (Ok n) buf) one read)
 
-  pub told_fault : (held before : Option Files) (place limit : ℕ) (buf : List ℕ) (e : Fault) → before ≡ held → IfSome before (λ f. Reads (f name) place (Err e) buf) → IfSome held (λ f. IsReadPast (f name) limit (Err (fault e)))
+  pub told_fault : (held before : Option Files) (place limit : ℕ) (buf : List ℕ) (e : Fault) → before ≡ held →
+      IfSome before (λ f. Reads (f name) place (Err e) buf) → IfSome held (λ f. IsReadPast (f name) limit (Err (fault e)))
   told_fault None before place limit buf e same read = tt
   told_fault (Some f) None place limit buf e same read = cc
   told_fault (Some f) (Some b) place limit buf e same read =

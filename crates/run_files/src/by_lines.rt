@@ -1,11 +1,11 @@
 //! Files that are read line by line.
-ghost use Rattle.std.specs.Prelude.{◌≡◌, ◌+◌, ◌-◌, ◌^◌, ◌<◌, ◌≤◌, min, false, IfOk, IfSome, OnOk};
-ghost use Rattle.std.specs.Prelude.{IsTrue, length};
 ghost use Rattle.arc_outside.specs.LinesRead.{ahead, HandsOut};
 ghost use Rattle.arc_outside.specs.Reads.{OnlyReadsFile, TookJust};
 ghost use Rattle.run_files.specs.Answers.{OnlyReads};
-ghost use Rattle.run_files.specs.Refusals.{bytes_at};
 ghost use Rattle.run_files.specs.ReadingLines.{IsReadPast, IsWithinLimit, MovesOn};
+ghost use Rattle.run_files.specs.Refusals.{bytes_at};
+ghost use Rattle.std.specs.Prelude.{◌≡◌, ◌+◌, ◌-◌, ◌^◌, ◌<◌, ◌≤◌, min, false, IfOk, IfSome, OnOk};
+ghost use Rattle.std.specs.Prelude.{IsTrue, length};
 
 use crate::outcome::Stop;
 use crate::refusals::stop_of;

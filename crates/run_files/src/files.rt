@@ -1,9 +1,9 @@
 //! Files that are read.
-ghost use Rattle.std.specs.Prelude.{◌≡◌, ◌^◌, ◌<◌, ◌≤◌, All, length, min, IfOk, IfSome};
 ghost use Rattle.arc_outside.specs.Reads.{TookJust};
 ghost use Rattle.run_files.specs.Answers.{OnlyReads};
 ghost use Rattle.run_files.specs.Limits.{least_limit, router_limit};
 ghost use Rattle.run_files.specs.Reading.{ReadsFile, ReadsRouters};
+ghost use Rattle.std.specs.Prelude.{◌≡◌, ◌^◌, ◌<◌, ◌≤◌, All, length, min, IfOk, IfSome};
 
 use crate::limits::Limits;
 use crate::outcome::Stop;

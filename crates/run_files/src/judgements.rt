@@ -1,7 +1,7 @@
 //! The judgement of a certificate or a proof.
-ghost use Rattle.std.specs.Prelude.{◌≡◌, ◌≤◌, IfOk};
 ghost use Rattle.run_files.specs.Answers.{IsJudging};
 ghost use Rattle.run_files.specs.Judgements.{judgement_status, judgement_text};
+ghost use Rattle.std.specs.Prelude.{◌≡◌, ◌≤◌, IfOk};
 
 use crate::outcome::Done;
 use arc_base::{CertKind, List, Name};

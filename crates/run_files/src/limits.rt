@@ -1,6 +1,6 @@
 //! How large the files of a command may be.
-ghost use Rattle.std.specs.Prelude.{◌≡◌, ◌≤◌};
 ghost use Rattle.run_files.specs.Limits.{entries_limit, least_limit, router_limit, routers_limit};
+ghost use Rattle.std.specs.Prelude.{◌≡◌, ◌≤◌};
 
 use arc_base::limits::{
     ALL_EDITED_FILES_LIMIT, ALL_ROUTER_FILES_LIMIT, EDITED_ENTRY_LIMIT, EDITED_FILE_LIMIT,
@@ -13,7 +13,7 @@ pub enum Limits {
     /// Those of a command that judges the files as they are.
     Judging,
     /// The smaller ones of a command that edits the files, or judges edits of them: an edited file
-    /// keeps the others.
+    /// then stays within the limits of `Judging`.
     Editing,
 }
 

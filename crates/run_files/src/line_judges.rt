@@ -1,7 +1,7 @@
 //! Files whose lines come to a judge one by one.
-ghost use Rattle.std.specs.Prelude.{◌≤◌, IfSome};
 ghost use Rattle.run_files.specs.Answers.{OnlyReads};
 ghost use Rattle.run_files.specs.LineJudges.{JudgesText};
+ghost use Rattle.std.specs.Prelude.{◌≤◌, IfSome};
 
 use crate::by_lines::next_line;
 use crate::outcome::Stop;
@@ -12,11 +12,11 @@ use std::ops::ControlFlow;
 
 /// What judges a text whose lines come one by one.
 pub trait LineJudge: Sized + Drop {
-    ghost use Rattle.std.specs.Prelude.{◌<◌, ◌∷◌, ℕ, [], List, IfErr, IfOk, IfSome};
-    ghost use Rattle.std.specs.ControlFlow.{continue_value};
-    ghost use Rattle.run_files.specs.declared.outcome.FileRefusal.{FileRefusal};
     ghost use Rattle.run_files.specs.Answers.{Gives, HasStopCause};
     ghost use Rattle.run_files.specs.LineJudges.{GoesOn, Judges};
+    ghost use Rattle.run_files.specs.declared.outcome.FileRefusal.{FileRefusal};
+    ghost use Rattle.std.specs.ControlFlow.{continue_value};
+    ghost use Rattle.std.specs.Prelude.{◌<◌, ◌∷◌, ℕ, [], List, IfErr, IfOk, IfSome};
 
     /// What a text is judged to.
     type Outcome;

@@ -1,7 +1,7 @@
 //! Refusals, and the line that prints one.
-ghost use Rattle.std.specs.Prelude.{◌≡◌, ◌⊎◌, IfOk};
 ghost use Rattle.run_files.specs.Reading.{StopsFor};
 ghost use Rattle.run_files.specs.Refusals.{reason_words, refusal_line, refusal_of};
+ghost use Rattle.std.specs.Prelude.{◌≡◌, ◌⊎◌, IfOk};
 
 use crate::outcome::{FileRefusal, Reason, Stop};
 use arc_base::{Kind, Memory, Name};

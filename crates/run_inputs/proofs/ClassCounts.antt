@@ -17,7 +17,7 @@ use Rattle.traffic_classes.proofs.MakingUp.{one_list}
 use Rattle.verdicts.specs.Judged.{HasFewClassesEach}
 use Rattle.run_inputs.specs.Counts.{PoliciesHaveFewClasses, HasManyClasses}
 
--- a class more only lengthens the list
+-- one more class only lengthens the list
 one_more : (classes : List Class) (class : Class) → length classes ≤ length (with_class classes class)
 one_more classes class = go (list_any (is_same class) classes) refl
   where
@@ -48,7 +48,7 @@ zip_one net policies (p ∷ ps) (x ∷ xs) [] one other = absurd other
 zip_one net policies (p ∷ ps) (x ∷ xs) (y ∷ ys) one other =
     ap (λ (z : List Class). z ∷ xs) (one_list net policies p x y one.0 other.0) ∙ ap (λ (zs : List (List Class)). y ∷ zs) (zip_one net policies ps xs ys one.1 other.1)
 
--- the first policies have no more classes than more of them
+-- the first policies have at most as many classes as more of them
 pub no_fewer : (net : Network) (policies : List Policy) (m n c d : ℕ) → m ≤ n → HaveClasses net policies (take m policies) c → HaveClasses net policies (take n policies) d → c ≤ d
 no_fewer net policies m n c d below fewer many =
     let ks : List (List Class) = many.are.lists in
@@ -62,7 +62,7 @@ no_fewer net policies m n c d below fewer many =
     let last : length many.classes ≡ length (each_once (join (take m ks) ++ join (drop m ks))) = ap length many.are.once ∙ ap (λ (cs : List Class). length (each_once cs)) (sym whole) in
     omega (arith, first, last, once_more (join (take m ks)) (join (drop m ks)), fewer.counted, many.counted)
 
--- few classes are not many
+-- there are not both few and many classes
 pub few_or_many : (net : Network) (policies : List Policy) (count : ℕ) → PoliciesHaveFewClasses net policies → HasManyClasses net policies count → ⊥
 few_or_many net policies count few many =
     let P : List Policy → Type 0 = λ ps. HaveClasses net policies ps (told (length few.classes)) in
@@ -71,12 +71,14 @@ few_or_many net policies count few many =
     let less : told (length few.classes) ≤ length few.classes = min-le_left (length few.classes) (2 ^ 64 - 1) in
     omega (arith, less, no_fewer net policies (many.first.place + 1) (length policies) count (told (length few.classes)) (omega (arith, many.first.within)) many.first.with_it all, few.few, many.many)
 
--- the first policies that have many have one number of them
+-- the policies up to the first with which there are many classes have one number of them
 pub one_count : (net : Network) (policies : List Policy) (c d : ℕ) → HasManyClasses net policies c → HasManyClasses net policies d → c ≡ d
 one_count net policies c d one other = elim (cases_lt one.first.place other.first.place) [
-  | inl below ↦ absurd (omega (arith, no_fewer net policies (one.first.place + 1) other.first.place c other.first.few (omega (arith, below)) one.first.with_it other.first.before, other.first.before_few, one.many))
+  | inl below ↦ absurd (omega
+      (arith, no_fewer net policies (one.first.place + 1) other.first.place c other.first.few (omega (arith, below)) one.first.with_it other.first.before, other.first.before_few, one.many))
   | inr above ↦ elim (cases_lt other.first.place one.first.place) [
-    | inl below ↦ absurd (omega (arith, no_fewer net policies (other.first.place + 1) one.first.place d one.first.few (omega (arith, below)) other.first.with_it one.first.before, one.first.before_few, other.many))
+    | inl below ↦ absurd (omega
+        (arith, no_fewer net policies (other.first.place + 1) one.first.place d one.first.few (omega (arith, below)) other.first.with_it one.first.before, one.first.before_few, other.many))
     | inr same ↦ omega (
       arith,
       no_fewer net policies (one.first.place + 1) (other.first.place + 1) c d (omega (arith, above, same)) one.first.with_it other.first.with_it,
@@ -85,6 +87,6 @@ one_count net policies c d one other = elim (cases_lt one.first.place other.firs
   ]
 ]
 
--- where all classes are few, those of each policy are
+-- if all classes together are few, those of each policy are
 pub few_each : (net : Network) (policies : List Policy) → PoliciesHaveFewClasses net policies → HasFewClassesEach net policies
 few_each net policies few policy one classes are = omega (arith, no_more net policies policy classes few.classes one are few.are, few.few)

@@ -19,14 +19,14 @@ use Rattle.run_inputs.specs.Counts.{PoliciesHaveFewClasses, HasManyClasses, IsJu
 use Rattle.run_inputs.specs.Determined.{IsDetermined, IsJudgedOnce}
 use Rattle.run_inputs.proofs.ClassCounts.{one_count, few_or_many}
 
--- the value of an option is one, and there is none where there is none
+-- an option has one value at most
 pub one_value : {A : Type 0} (o : Option A) (x y : A) → o ≡ Some x → o ≡ Some y → x ≡ y
 one_value o x y e f = cc
 
 pub no_value : {A : Type 0} (o : Option A) (x : A) → o ≡ Some x → o ≡ None → ⊥
 no_value o x e f = absurd (cc)
 
--- what is read is one document or one refusal
+-- a text is read as one document or one refusal
 one_ok : (r : Result Document Refusal) (x y : Document) → r ≡ Ok x → r ≡ Ok y → x ≡ y
 one_ok r x y e f = cc
 
@@ -43,7 +43,7 @@ module _ (limits : Limits) (down document : List ℕ) (files : Files) where
   one_network : (doc : Document) (net other : Network) → HoldsInput limits down document files doc net → HoldsInput limits down document files doc other → net ≡ other
   one_network doc net other h k = answers.one_network down (entries_limit limits) doc (contents files doc) net other h.network k.network
 
-  -- the stages of the refusals, and what each says of the ones before
+  -- the stages of the refusals: each excludes those before it
   pub document_none : (doc : Document) (r : FileRefusal) → HoldsDocument document files doc → RefusesDocument document files r → ⊥
   document_none doc r h u = ok_or_err (reading (bytes_at files document)) doc u.refusal h.read u.refused
 
@@ -75,7 +75,7 @@ module _ (limits : Limits) (down document : List ℕ) (files : Files) where
       let P : Document → Type 0 = λ d. IsFirstRefusalWithin down (entries_limit limits) d (contents files d) u.refusal in
       answers.network_or_refused down (entries_limit limits) doc (contents files doc) net u.refusal h.network (subst P same u.refused)
 
-  -- a file that is held is not refused as one that is not
+  -- a file that is held is not refused as missing or too long
   pub held_none : (r : FileRefusal) → read_refusal document_limit files document ≡ None → read_refusal document_limit files document ≡ Some r → ⊥
   held_none r none some = no_value (read_refusal document_limit files document) r some none
 
@@ -106,10 +106,11 @@ module _ (limits : Limits) (down document : List ℕ) (files : Files) where
   pub determined : IsDetermined limits down document files
   determined = record { one_document = one_document; one_network = one_network; one_refusal = one_input_refusal; not_both = not_both }
 
--- and where classes are counted
+-- a command that counts classes has one refusal at most
 module _ (limits : Limits) (document : List ℕ) (files : Files) where
-  -- two networks of the input, and two counts of its classes, are the same
-  same_count : (u : ℕ) (doc other : Document) (net last : Network) (v : ℕ) → HoldsInput limits [] document files doc net → HoldsInput limits [] document files other last → HasManyClasses net doc.policies u → HasManyClasses last other.policies v → u ≡ v
+  -- two networks of the input are equal, and so are two counts of its classes
+  same_count : (u : ℕ) (doc other : Document) (net last : Network) (v : ℕ) → HoldsInput limits [] document files doc net →
+      HoldsInput limits [] document files other last → HasManyClasses net doc.policies u → HasManyClasses last other.policies v → u ≡ v
   same_count u doc other net last v h k many more =
       let docs : doc ≡ other = one_document limits [] document files doc other h.files_are.document_is k.files_are.document_is in
       let P : Document → Type 0 = λ d. HoldsInput limits [] document files d net in
@@ -126,7 +127,8 @@ module _ (limits : Limits) (document : List ℕ) (files : Files) where
       let count : u.count ≡ v.count = same_count u.count u.doc v.doc u.net v.net v.count u.input v.input u.many v.many in
       u.told ∙ ap (λ (n : ℕ). refusal_of document 0 (Limit Classes n)) count ∙ sym v.told
 
-  few_or_refused : (doc : Document) (net : Network) (r : FileRefusal) → HoldsInput limits [] document files doc net → PoliciesHaveFewClasses net doc.policies → IsJudgingRefusal limits document files r → ⊥
+  few_or_refused : (doc : Document) (net : Network) (r : FileRefusal) → HoldsInput limits [] document files doc net → PoliciesHaveFewClasses net doc.policies →
+      IsJudgingRefusal limits document files r → ⊥
   few_or_refused doc net r h few (inl e) = not_both limits [] document files doc net r h e
   few_or_refused doc net r h few (inr u) =
       let docs : doc ≡ u.doc = one_document limits [] document files doc u.doc h.files_are.document_is u.input.files_are.document_is in

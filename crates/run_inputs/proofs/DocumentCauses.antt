@@ -1,4 +1,4 @@
--- A document is refused for what it says, and never because it is missing or too long.
+-- A document is refused for its contents here, and never because it is missing or too long.
 use Rattle.std.proofs.Common.{◌≡◌, ◌⊎◌, inl, inr, ℕ, List, sym, ◌∙◌, subst}
 use Rattle.std.specs.Prelude.{Err}
 use Rattle.arc_base.specs.declared.refusal.Kind.{Kind}
@@ -36,7 +36,8 @@ never_missing : (kind : Kind) → IsFormOrLimit kind → kind ≡ kinds.Missing 
 never_missing kind (inl form) missing = form_missing (sym form ∙ missing)
 never_missing kind (inr limit) missing = limit_missing limit.0 limit.1 (sym limit.2 ∙ missing)
 
-pub document_cause : (failed absent long : Type 0) (bytes name : List ℕ) (routers : List (List ℕ)) (refusal : Refusal) (stop : Stop) → reading bytes ≡ Err refusal → (stop ≡ stops.Memory) ⊎ (stop ≡ stops.Refused (named name routers refusal)) → HasStopCause failed absent long stop
+pub document_cause : (failed absent long : Type 0) (bytes name : List ℕ) (routers : List (List ℕ)) (refusal : Refusal) (stop : Stop) →
+    reading bytes ≡ Err refusal → (stop ≡ stops.Memory) ⊎ (stop ≡ stops.Refused (named name routers refusal)) → HasStopCause failed absent long stop
 document_cause failed absent long bytes name routers refusal stop read (inl memory) =
     let P : Stop → Type 0 = HasStopCause failed absent long in
     subst P (sym memory) tt

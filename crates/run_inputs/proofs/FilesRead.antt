@@ -1,4 +1,4 @@
--- The router files of a document that is held, and their network, are refused.
+-- What reading the router files of a document that is held gives: their network, or a refusal.
 use Rattle.std.proofs.Common.{◌≡◌, ◌⊎◌, inl, inr, List, ℕ, refl, sym, ◌∙◌, ap, subst}
 use Rattle.std.specs.Prelude.{Option, Some, None, IfSome, Ok, Err, map}
 use Rattle.arc_outside.specs.Files.{Files}
@@ -16,8 +16,9 @@ use Rattle.run_files.specs.Reading.{ReadsRouters}
 use Rattle.run_files.specs.Limits.{entries_limit}
 use Rattle.run_files.specs.Refusals.{bytes_at, routers_refusal}
 
--- whatever the answer would be if there were one
-pub network_refused : {X : Type 0} (P : Files → X → Type 0) (limits : Limits) (down : List ℕ) (held : Option Files) (document : List ℕ) (doc : Document) (routers read : List (List ℕ)) (refusal : Refusal) (stop : Stop) →
+-- a refusal of the network is one of the files, whatever the answer would be otherwise
+pub network_refused : {X : Type 0} (P : Files → X → Type 0) (limits : Limits) (down : List ℕ) (held : Option Files) (document : List ℕ) (doc : Document) (routers read : List (List ℕ))
+    (refusal : Refusal) (stop : Stop) →
     IfSome held (λ files. ReadsRouters limits files routers (Ok read)) → routers ≡ doc.routers → IsFirstRefusalWithin down (entries_limit limits) doc read refusal →
     (stop ≡ stops.Memory) ⊎ (stop ≡ stops.Refused (named document doc.routers refusal)) →
     IfSome held (λ files. HoldsDocument document files doc → Gives (IsFilesRefusal limits down document files) (P files) (Err stop))
@@ -36,7 +37,7 @@ network_refused P limits down (Some files) document doc routers read refusal sto
       is_named = refl;
     }))
 
--- the router files as they are, and what is built of them
+-- the router files as they are, and what is built from them
 pub sources_read : (limits : Limits) (down : List ℕ) (held : Option Files) (document : List ℕ) (doc : Document) (routers read : List (List ℕ)) (built : Built) →
     IfSome held (λ files. ReadsRouters limits files routers (Ok read)) → routers ≡ doc.routers → IsBuiltWithin down (entries_limit limits) doc read built →
     IfSome held (λ files. HoldsDocument document files doc → ReadsSources limits down document doc files (Ok (record { files = read; built = built })))
@@ -51,7 +52,7 @@ sources_read limits down (Some files) document doc routers read built told same 
       built = is;
     }
 
--- and their network alone
+-- the network alone of the router files
 pub files_read : (limits : Limits) (down : List ℕ) (held : Option Files) (document : List ℕ) (doc : Document) (routers read : List (List ℕ)) (net : Network) →
     IfSome held (λ files. ReadsRouters limits files routers (Ok read)) → routers ≡ doc.routers → IsNetworkWithin down (entries_limit limits) doc read net →
     IfSome held (λ files. HoldsDocument document files doc → ReadsRouterFiles limits down document files (Ok (record { doc = doc; net = net })))

@@ -1,4 +1,4 @@
--- Where the document and its router files are held as before, they have the same network.
+-- If the document and its router files are held as before, they have the same network.
 use Rattle.std.proofs.Common.{◌≡◌, ℕ, ◌-◌, List, [], ◌∷◌, length, map, min, refl, sym, ◌∙◌, ap, subst}
 use Rattle.std.proofs.lemmas.List.Elements.{recursion_from_All}
 use Rattle.std.specs.Prelude.{Option, Ok, unwrap_or}
@@ -37,7 +37,8 @@ module _ (before after : Files) where
   same_contents (name ∷ names) same =
       ap (λ (b : List ℕ). b ∷ map (bytes_at after) names) (same_bytes name same.0) ∙ ap (λ (l : List (List ℕ)). bytes_at before name ∷ l) (same_contents names same.1)
 
-  pub same_input : (limits : Limits) (down document : List ℕ) (doc : Document) (net : Network) → HoldTheSame document before after → HoldsInput limits down document before doc net → HoldsInput limits down document after doc net
+  pub same_input : (limits : Limits) (down document : List ℕ) (doc : Document) (net : Network) → HoldTheSame document before after →
+      HoldsInput limits down document before doc net → HoldsInput limits down document after doc net
   same_input limits down document doc net same input =
       let each : AllByRecursion Same doc.routers = recursion_from_All Same doc.routers (same.routers_are doc input.files_are.document_is) in
       let P : List ℕ → Type 0 = λ bytes. ReadsDocument bytes (Ok doc) in

@@ -1,4 +1,4 @@
--- Counts that may pass their limit: of traffic classes, of edits, and of a formula.
+-- Counts that may exceed their limit: of traffic classes, of edits, and of a formula.
 use Rattle.std.specs.Prelude.{◌≡◌, ℕ, ◌≤◌, ◌<◌, ◌⊎◌, List, [], length, Result, Ok, Err}
 use Rattle.arc_base.specs.declared.limits.TheConstants.{CLASS_LIMIT}
 use Rattle.arc_base.specs.declared.refusal.Kind.TheVariants.{Limit}
@@ -24,12 +24,12 @@ pub record PoliciesHaveFewClasses (net : Network) (policies : List Policy) : Typ
   pub are : AreAllClasses net policies policies classes
   pub few : length classes ≤ CLASS_LIMIT
 
--- up to the first policy with which they have too many classes they have this many
+-- the policies up to the first with which there are too many classes have `count` of them
 pub record HasManyClasses (net : Network) (policies : List Policy) (count : ℕ) : Type 0 where
   pub first : FirstHaveMore net policies count
   pub many : CLASS_LIMIT < count
 
--- what counting the classes answers
+-- the answer of counting the classes: they are few, or the document is refused for their number
 abbrev pub CountsClasses : List ℕ → Network → List Policy → Result (Unit {0}) Stop → Type 0
 CountsClasses document net policies (Ok done) = PoliciesHaveFewClasses net policies
 CountsClasses document net policies (Err (stops.Refused r)) =
@@ -53,7 +53,7 @@ abbrev pub IsJudgingRefusal : Limits → List ℕ → Files → FileRefusal → 
 IsJudgingRefusal limits document files r =
     IsInputRefusal limits [] document files r ⊎ RefusesClasses limits document files r
 
--- a count that passes its limit refuses the document, unless memory runs out
+-- a count above its limit refuses the document, unless memory runs out
 abbrev pub StopsFor : List ℕ → EditFault → Stop → Type 0
 StopsFor document (faults.Limit what count) stop =
     (stop ≡ stops.Memory) ⊎ (stop ≡ stops.Refused (refusal_of document 0 (Limit what count)))

@@ -8,8 +8,8 @@ use Rattle.run_files.specs.declared.outcome.FileRefusal.{FileRefusal}
 use Rattle.run_inputs.specs.Counts.{PoliciesHaveFewClasses, IsJudgingRefusal}
 use Rattle.run_inputs.specs.Inputs.{HoldsDocument, HoldsInput, IsInputRefusal}
 
--- files have at most one document, one network with these links, and one refusal for them, and
--- never both
+-- files have at most one document, at most one network with these links to be down, and at most one
+-- refusal, and never a network and a refusal
 pub record IsDetermined (limits : Limits) (down : List ℕ) (document : List ℕ)
     (files : Files) : Type 0 where
   pub one_document : (doc other : Document) → HoldsDocument document files doc →
@@ -23,7 +23,8 @@ pub record IsDetermined (limits : Limits) (down : List ℕ) (document : List ℕ
       HoldsInput limits down document files doc net →
       IsInputRefusal limits down document files r → ⊥
 
--- and a command that counts classes has one refusal, and none where the network has few
+-- for a command that also counts classes files have at most one refusal, and none if the network
+-- has few classes
 pub record IsJudgedOnce (limits : Limits) (document : List ℕ) (files : Files) : Type 0 where
   pub one_refusal : (r s : FileRefusal) → IsJudgingRefusal limits document files r →
       IsJudgingRefusal limits document files s → r ≡ s

@@ -1,5 +1,5 @@
-//! Counts that may pass their limit: of the traffic classes of a document's policies, of its edits,
-//! and of their formula.
+//! Counts that may exceed their limit: of the traffic classes of a document's policies, of its
+//! edits, and of their formula.
 ghost use Rattle.run_inputs.specs.Counts.{CountsClasses, StopsFor};
 
 use arc_base::{Kind, LimitKind, List, Name};
@@ -29,8 +29,8 @@ pub fn count_classes(
     }
 }
 
-/// The stop for a fault in listing edits or making their formula: a count that passes its limit
-/// refuses the document.
+/// The stop for a fault in listing edits or making their formula: a count above its limit refuses
+/// the document.
 pub fn fault_stop(alloc: Global, document: &Name, fault: EditFault) -> Stop
     ensures { StopsFor document.now fault result }
 {

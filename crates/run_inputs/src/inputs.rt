@@ -1,5 +1,4 @@
-//! What a command over a document begins with: the document, and the network of the router files
-//! that it names.
+//! What a command over a document begins with: the document, and the network of its router files.
 ghost use Rattle.net_build.specs.Networks.{IsBuiltWithin};
 ghost use Rattle.net_doc.specs.Documents.{IsWellFormed};
 ghost use Rattle.net_rules.specs.Linking.{first_above};
@@ -26,15 +25,16 @@ pub struct Input {
     pub net: Network,
 }
 
-/// The router files of a document in its order, and what is built of them: their network, their
-/// lines, and where in them each item is.
+/// The router files of a document in its order, and what is built from them: their network, their
+/// lines, and where in them each part is.
 #[derive(Drop)]
 pub struct Sources {
     pub files: List<Name>,
     pub built: Built,
 }
 
-/// The name of a file by its number, and no bytes where there is no such file.
+/// The name of the file of this number: 0 is the document, router files count from 1. Empty if
+/// there is no such file.
 fn name_of<'a>(document: &'a Name, routers: &'a List<Name>, file: u32) -> &'a [u8]
     ensures { result.now ≡ name_of document.now routers.now file }
 {
@@ -77,7 +77,7 @@ pub fn read_document<S: Store>(alloc: Global, name: &Name, store: &mut S) -> Res
     }
 }
 
-/// Reads the router files that the document names, and builds their network; or answers the first
+/// Reads the router files that the document names, and builds their network, or gives the first
 /// refusal. The numbers `down` are those of links that are to be down, counted from 1.
 pub fn read_sources<S: Store>(
     alloc: Global,
@@ -109,8 +109,8 @@ pub fn read_sources<S: Store>(
     }
 }
 
-/// Reads the router files that the document names, and builds their network alone, which holds the
-/// lines of no more than one of them at a time; or answers the first refusal.
+/// Reads the router files that the document names, and builds their network alone, with the lines
+/// of one file in memory at a time; or gives the first refusal.
 pub fn read_files<S: Store>(
     alloc: Global,
     name: &Name,
@@ -135,7 +135,7 @@ pub fn read_files<S: Store>(
     }
 }
 
-/// Reads the document and the router files, and builds their network; or answers the first refusal.
+/// Reads the document and the router files, and builds their network, or gives the first refusal.
 pub fn read_input<S: Store>(
     alloc: Global,
     name: &Name,

@@ -4,8 +4,8 @@ ghost use Rattle.run_files.specs.declared.limits.Limits.{Limits};
 ghost use Rattle.run_inputs.specs.Determined.{IsDetermined, IsJudgedOnce};
 ghost use Rattle.std.specs.Prelude.{ℕ, List};
 
-/// What the names hold gives a command over a document at most one document and network, and at
-/// most one first refusal, and never both.
+/// The files give a command over a document at most one document and network or one first refusal,
+/// never both.
 pub fn input_is_determined()
     ensures input { (limits : Limits) (down document : List ℕ) (files : Files) →
         IsDetermined limits down document files }

@@ -1,6 +1,6 @@
 //! What a command over a document begins with: the document, the router files that it names, and
-//! their network, or the first refusal of these in its order. The classes of the policies are
-//! counted here too, for the commands that judge, and a count that passes its limit is refused.
+//! their network, or the first refusal of these in order. The classes of the policies are counted
+//! here too, for the commands that judge, and a count above its limit is refused.
 #![tactic(auto)]
 
 mod counting;

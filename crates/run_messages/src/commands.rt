@@ -1,12 +1,12 @@
-//! What a first word that names no command may ask for or mean, and the document of a command.
+//! Guesses at a first word that names no command, and the document of a command.
 
 use arc_base::Name;
 use command_words::{Command, CommandForm, command_forms};
 
-/// The version of the program, as CHANGELOG.md counts.
+/// The version of the program, as in CHANGELOG.md.
 pub const VERSION: &str = "1.1.0";
 
-/// The command that begins with the same three letters as this word, which names none.
+/// A command whose name begins with the first three letters of this word, which names no command.
 pub fn near_form(word: &[u8]) -> Option<CommandForm> {
     let front = word.get(..3)?;
     command_forms()
@@ -15,7 +15,7 @@ pub fn near_form(word: &[u8]) -> Option<CommandForm> {
         .copied()
 }
 
-/// Whether a first word asks for help, though it names no command.
+/// Whether a first word asks for help; no command has such a name.
 pub fn asks_for_help(word: &[u8]) -> bool {
     matches!(word, b"--help" | b"-h" | b"help")
 }
@@ -25,7 +25,7 @@ pub fn asks_for_version(word: &[u8]) -> bool {
     matches!(word, b"--version" | b"-V" | b"version")
 }
 
-/// The document that a command reads.
+/// The document that a command reads, if it reads one.
 pub fn document_of(command: &Command) -> Option<&Name> {
     match command {
         Command::Verify(document) | Command::Check(document, _) => Some(document),

@@ -9,7 +9,7 @@ const USUAL_CAUSES: &str = "a member that is unknown, missing or of another kind
     a prefix with bits past its length; failures missing where kind is reach, or standing \
     elsewhere; proto or port in version 1";
 
-/// Whether a document with these links and policies alone is none.
+/// Whether a document with no other links and policies than these is out of form.
 fn is_out_of_form(
     alloc: Global,
     version: &str,
@@ -24,7 +24,8 @@ fn is_out_of_form(
     }
 }
 
-/// The number of the first link or policy that makes a document none, whatever the others are.
+/// The number of the first link or policy that is out of form, whatever the others are, counted
+/// from 1.
 fn wrong_item(
     alloc: Global,
     version: &str,
@@ -47,8 +48,8 @@ fn wrong_item(
     Ok(None)
 }
 
-/// The part that makes a JSON value no document, if it can be found: `document` itself judges each
-/// link and policy by itself.
+/// The part that makes a JSON value no document, if it can be found: `document` judges each link
+/// and policy by itself.
 fn wrong_part(alloc: Global, value: &Value) -> Result<Option<String>, AllocError> {
     let version = match value.get("version") {
         Some(version) => version.to_string(alloc)?,
@@ -66,8 +67,8 @@ fn wrong_part(alloc: Global, value: &Value) -> Result<Option<String>, AllocError
     }
 }
 
-/// What is to be said of a text that is no JSON. The place is where reading stopped, which is the
-/// word that is wrong or the one behind it.
+/// The message for a text that is no JSON. The place is where reading stopped: at the wrong word or
+/// the one after it.
 fn json_fault(alloc: Global, error: &Error) -> Result<String, AllocError> {
     if error.is_memory() {
         return Err(AllocError);
@@ -79,7 +80,7 @@ fn json_fault(alloc: Global, error: &Error) -> Result<String, AllocError> {
     format!(in alloc; "cannot be read as JSON beyond line {line}, column {column}")
 }
 
-/// What is to be said of a text that is refused for its form as a document, behind its name.
+/// The message for a text that is refused for its form as a document, which follows its name.
 pub fn document_fault(alloc: Global, text: &[u8]) -> Result<String, AllocError> {
     let value = match Value::from_slice(alloc, text) {
         Ok(value) => value,
@@ -93,8 +94,8 @@ pub fn document_fault(alloc: Global, text: &[u8]) -> Result<String, AllocError> 
     }
 }
 
-/// The link or policy of this number, from 1, in a document, as JSON on one line. There is none
-/// where the text is no JSON or has no such item.
+/// The link or policy of this number, counted from 1, in a document, as JSON on one line. `None` if
+/// the text is no JSON or has no such item.
 pub fn document_item(
     alloc: Global,
     text: &[u8],

@@ -1,4 +1,4 @@
-//! What the number of edits of a network comes from.
+//! Where most edits of a network come from.
 
 use arc_base::List;
 use net_model::{FaceRow, Network, Policy};
@@ -10,8 +10,8 @@ fn is_free(face: &FaceRow) -> bool {
     face.up && face.addr.is_some() && !face.bound_in
 }
 
-/// How many of the edits are entries of new lists, in words. The number is a bound: a traffic class
-/// for which no single entry can speak has no such edit.
+/// How many of the edits are entries of new lists, in words. The number is an upper bound: a
+/// traffic class that no single entry can match has no such edit.
 pub fn edits_of_new_lists(alloc: Global, net: &Network, policies: &List<Policy>) -> Option<String> {
     let classes = all_classes(alloc, net, policies).ok()?.len();
     let free = net.faces.slice().iter().filter(|face| is_free(face));

@@ -1,4 +1,4 @@
-//! Which interface a link names that its router does not have.
+//! Which interface of a link its router lacks.
 ghost use Rattle.std.specs.Prelude.{◌<◌, ◌^◌, length};
 
 use crate::overlaps::config_of;
@@ -7,14 +7,14 @@ use ios_config::{Config, FaceText};
 use std::alloc::Global;
 use std::str;
 
-/// The letters of an interface's name, and its numbers.
+/// The letters that an interface's name begins with, and the rest.
 fn parts(name: &[u8]) -> Option<(&[u8], &[u8])> {
     let end = name.iter().position(|byte| !byte.is_ascii_alphabetic())?;
     Some((name.get(..end)?, name.get(end..)?))
 }
 
-/// Whether the command line of IOS would take the word for the name: its letters may be fewer, and
-/// small or capital.
+/// Whether the command line of IOS would take the word for the name: the letters may be
+/// abbreviated, in either case.
 fn is_near(word: &[u8], name: &[u8]) -> bool {
     let (Some((front, unit)), Some((kind, numbers))) = (parts(word), parts(name)) else {
         return false;
@@ -25,7 +25,7 @@ fn is_near(word: &[u8], name: &[u8]) -> bool {
     }
 }
 
-/// The one interface of a router that the word may mean.
+/// The interface of a router that the word may mean, if there is just one.
 fn near_face<'a>(config: &'a Config, word: &[u8]) -> Option<&'a FaceText> {
     let faces = config.faces.slice();
     let mut near = faces.iter().filter(|face| is_near(word, face.name.bytes()));
@@ -36,8 +36,7 @@ fn near_face<'a>(config: &'a Config, word: &[u8]) -> Option<&'a FaceText> {
     }
 }
 
-/// What is to be said of an end of a link, where this is the file of its router and lacks its
-/// interface.
+/// The message about an end of a link, if this is the file of its router and lacks its interface.
 pub fn missing_face(alloc: Global, text: &[u8], router: &Name, face: &Name) -> Option<String>
     requires { length text.now < 2 ^ 32 }
 {

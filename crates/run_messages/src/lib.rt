@@ -1,8 +1,8 @@
-//! What the program says on standard error for the person at the terminal: the line, link, policy
-//! or interfaces that a refusal is about and what is wrong with them, why a text is no document,
-//! why words match no command, which policy a certificate is rejected at, and whether a report has
-//! a yes of which more is to be said. It changes no answer and no status, and no contract says what
-//! the messages are.
+//! What the program says on standard error to the person at the terminal: the line, link, policy or
+//! interfaces that a refusal is about and what is wrong with them, why a text is no document, why
+//! words match no command, which policy a certificate is rejected at, and whether a report has a
+//! yes that calls for a note. It changes no answer and no status, and no contract says what the
+//! messages are.
 #![tactic(auto)]
 
 mod commands;

@@ -1,4 +1,4 @@
-//! The line of a file that a refusal names, and the word of it that is wrong.
+//! The line of a file that a refusal names, and the word that is wrong in it.
 ghost use Rattle.ios_lines.specs.Lines.{AreLinesOf};
 ghost use Rattle.std.specs.Prelude.{◌<◌, ◌^◌, length};
 
@@ -8,7 +8,7 @@ use ios_lines::{Line, Lines, cut};
 use ios_words::{BlockKind, WordFault, command};
 use std::alloc::Global;
 
-/// The line of this number, from 1, without its end.
+/// The line of this number, counted from 1, without its end.
 pub fn line_at(text: &[u8], number: u32) -> Option<&[u8]> {
     let place = (number as usize).checked_sub(1)?;
     let line = text.split(|byte| *byte == b'\n').nth(place)?;
@@ -40,8 +40,8 @@ fn block_of(alloc: Global, text: &[u8], lines: &Lines, line: &Line) -> BlockKind
     }
 }
 
-/// The place of the word that is wrong in the line of this number, from 1, with the words of the
-/// line.
+/// The place of the wrong word in the line of this number, both counted from 1, with the words of
+/// the line.
 fn wrong_place<'a>(
     alloc: Global,
     text: &[u8],
@@ -57,7 +57,7 @@ fn wrong_place<'a>(
     }
 }
 
-/// What is wrong with the line of this number of a router file, from 1, where one word is.
+/// What is wrong with the line of this number of a router file, counted from 1, if a word is.
 pub fn wrong_word(alloc: Global, text: &[u8], number: u32) -> Option<WrongWord<'_>>
     requires { length text.now < 2 ^ 32 }
 {

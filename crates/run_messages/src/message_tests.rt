@@ -70,7 +70,7 @@ fn bytes_are_shown(rt: HostRuntime) -> Result<(), Fail> {
     Ok(())
 }
 
-/// Texts of reports, and whether a yes of blocked or through is in them.
+/// Texts of reports, and whether they have a yes of blocked or through.
 const REPORTS: &[(&str, bool)] = &[
     ("arc-report 1\n1 reach yes 0\n2 blocked yes 1\nclosed", true),
     ("arc-report 1\n256 through yes 1\n", true),
@@ -86,8 +86,8 @@ fn yeses_are_found_in_reports(rt: HostRuntime) -> Result<(), Fail> {
     Ok(())
 }
 
-/// The lines of a certificate before the one that is rejected, that line, and the policy to which
-/// it belongs: where the word is `policy`, and where it is `form`.
+/// The lines of a certificate before the rejected one, that line, and the policy that it belongs
+/// to: where the word is `policy`, and where it is `form`.
 const REJECTIONS: &[(&[&str], &str, Option<u32>, Option<u32>)] = &[
     (&["arc-report 1"], "1 reach no 2", Some(1), Some(1)),
     (&["arc-report 1", "1 reach no 2"], "cut 1", Some(2), Some(1)),
@@ -123,7 +123,7 @@ fn rejected_lines_are_of_policies(rt: HostRuntime) -> Result<(), Fail> {
     Ok(())
 }
 
-/// Policies, and what they ask.
+/// Policies, and what they ask, in words.
 #[test]
 fn policies_are_told_in_words(rt: HostRuntime) -> Result<(), Fail> {
     let from = Prefix::new(0x0a01_0000, 24).ok_or("no prefix")?;
@@ -216,7 +216,7 @@ interface Ethernet0/1
 interface Serial0/1
 ";
 
-/// Interfaces of links at r3, and what is said of them.
+/// Interfaces of links at r3, and the messages about them.
 const ENDS: &[(&str, Option<&str>)] = &[
     ("GigabitEthernet0/1", None),
     (

@@ -1,4 +1,4 @@
-//! Which two interfaces have subnets that overlap.
+//! Which two interfaces have overlapping subnets.
 ghost use Rattle.std.specs.Prelude.{◌<◌, ◌^◌, length};
 
 use arc_base::{Memory, Name, Prefix, push_address, push_number};
@@ -17,15 +17,15 @@ struct Subnet {
     prefix: Prefix,
 }
 
-/// The subnets of router files, in the order in which these are added.
+/// The subnets of router files, in the order in which the files are added.
 #[derive(Drop)]
 pub struct Subnets {
     rows: Vec<Subnet>,
-    /// How many of them are of the files before the last.
+    /// How many of them are from files before the last.
     earlier: usize,
 }
 
-/// What a router file says, if it can be read.
+/// The settings of a router file, if it can be read.
 pub(crate) fn config_of(alloc: Global, text: &[u8]) -> Option<Config>
     requires { length text.now < 2 ^ 32 }
 {
@@ -33,7 +33,7 @@ pub(crate) fn config_of(alloc: Global, text: &[u8]) -> Option<Config>
     config(alloc, text, &lines).ok()
 }
 
-/// The prefix of an address and the number of ones of its mask.
+/// The prefix of an address with a mask of this many ones.
 fn prefix_of(addr: u32, ones: u8) -> Option<Prefix> {
     let past = 32u32.checked_sub(u32::from(ones))?;
     let mask = u32::MAX.checked_shl(past).unwrap_or(0);
@@ -56,7 +56,7 @@ fn subnet_of(alloc: Global, router: &Name, face: &FaceText) -> Result<Option<Sub
     }))
 }
 
-/// Whether the link has the one interface as its end a and the other as its end b.
+/// Whether the link has the first interface as its end a and the second as its end b.
 fn joins(link: &LinkText, a: &Subnet, b: &Subnet) -> bool {
     link.a_router.is(a.router.bytes())
         && link.a_face.is(a.face.bytes())
@@ -71,7 +71,7 @@ fn are_linked(doc: &Document, f: &Subnet, g: &Subnet) -> bool {
         .any(|link| joins(link, f, g) || joins(link, g, f))
 }
 
-/// Adds an interface as a link of the document names it, with its address.
+/// Appends an interface, named as in a link of the document, with its address.
 fn push_subnet(alloc: Global, text: &mut Vec<u8>, subnet: &Subnet) -> Result<(), Memory> {
     text.extend_from_slice(subnet.router.bytes())?;
     text.push(b':')?;
@@ -85,7 +85,7 @@ fn push_subnet(alloc: Global, text: &mut Vec<u8>, subnet: &Subnet) -> Result<(),
 }
 
 impl Subnets {
-    /// None.
+    /// No subnets.
     pub fn none(alloc: Global) -> Subnets {
         Subnets {
             rows: Vec::new(alloc),
@@ -112,7 +112,7 @@ impl Subnets {
         Ok(())
     }
 
-    /// The place of the interface of the last file whose address this line gives.
+    /// The place of the interface of the last file whose address is on this line.
     fn place_at(&self, line: u32) -> Option<usize> {
         (self.earlier..self.rows.len()).find(|place| self.is_at(*place, line))
     }
@@ -121,7 +121,7 @@ impl Subnets {
         self.rows.get(place).is_some_and(|row| row.line == line)
     }
 
-    /// The interface of the last file whose address this line gives, and the first one before it
+    /// The interface of the last file whose address is on this line, and the first one before it
     /// that it overlaps, in words.
     pub fn overlap(&self, alloc: Global, doc: &Document, line: u32) -> Option<Vec<u8>> {
         let place = self.place_at(line)?;

@@ -7,7 +7,7 @@ use std::net::Ipv4Addr;
 /// The number of services of one protocol.
 const PORTS: u32 = 65_536;
 
-/// The ports of a range of services of one protocol.
+/// The ports of a service range within one protocol, in words; empty if it has all of them.
 fn ports(alloc: Global, service: &Service) -> Result<String, AllocError> {
     let (low, high) = (service.low % PORTS, service.high % PORTS);
     if low == 0 && high == PORTS - 1 {
@@ -19,7 +19,7 @@ fn ports(alloc: Global, service: &Service) -> Result<String, AllocError> {
     format!(in alloc; " and ports {low} to {high}")
 }
 
-/// The services that a policy speaks of, and nothing where it speaks of all.
+/// The services of a policy, in words; empty if it has all of them.
 fn services(alloc: Global, service: &Service) -> Result<String, AllocError> {
     let (low, high) = (service.low / PORTS, service.high / PORTS);
     if low != high {
@@ -33,7 +33,7 @@ fn services(alloc: Global, service: &Service) -> Result<String, AllocError> {
     }
 }
 
-/// How many links may have failed.
+/// How many links may have failed, in words.
 fn failed_links(alloc: Global, failures: u32) -> Result<String, AllocError> {
     match failures {
         0 => String::from_str(alloc, "no link has failed"),
@@ -42,7 +42,7 @@ fn failed_links(alloc: Global, failures: u32) -> Result<String, AllocError> {
     }
 }
 
-/// What the policy asks.
+/// What the policy asks, in words.
 pub fn policy_words(alloc: Global, policy: &Policy) -> Result<String, AllocError> {
     let services = services(alloc, &policy.service)?;
     let from = Ipv4Addr::from_bits(policy.from.addr);

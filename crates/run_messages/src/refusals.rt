@@ -6,19 +6,19 @@ use run_files::{FileRefusal, Reason};
 /// What a refusal is about, in the file that it names.
 #[derive(Clone, Copy, Debug, PartialEq, Eq)]
 pub enum Subject {
-    /// The whole of it, or the words of the command.
+    /// The whole file, or the words of the command.
     Whole,
     /// There is no such file.
     NoFile,
     /// It is no document.
     Form,
-    /// The link or policy of its number: this member of the document.
+    /// The link or policy of this number, in this member of the document.
     Item(&'static str),
-    /// The line of its number.
+    /// The line of this number.
     Line,
 }
 
-/// What a refusal is about, of the document or of another file.
+/// What a refusal is about, given whether it names the document or another file.
 pub fn subject_of(refusal: &FileRefusal, is_of_document: bool) -> Subject {
     let Reason::Kind(kind) = refusal.reason else {
         return Subject::Line;

@@ -2,7 +2,7 @@
 
 use std::str;
 
-/// What a line `rejected LINE WORD` says.
+/// The parts of a line `rejected LINE WORD`.
 #[derive(Clone, Copy, Debug, PartialEq, Eq)]
 pub struct Rejected<'a> {
     pub line: u64,
@@ -13,7 +13,7 @@ fn number_of(word: &[u8]) -> Option<u64> {
     str::from_utf8(word).ok()?.parse().ok()
 }
 
-/// What the text says, if it is such a line.
+/// The parts of the text, if it is such a line.
 pub fn rejection_of(text: &[u8]) -> Option<Rejected<'_>> {
     let line = text.strip_suffix(b"\n")?.strip_prefix(b"rejected ")?;
     let mut words = line.split(|byte| *byte == b' ');
@@ -21,7 +21,7 @@ pub fn rejection_of(text: &[u8]) -> Option<Rejected<'_>> {
     Some(Rejected { line, word })
 }
 
-/// How many witness lines follow, where the line is the first one of a block.
+/// The number of witness lines that follow, if the line is the first one of a block.
 fn witness_lines(line: &[u8]) -> Option<u64> {
     let mut words = line.split(|byte| *byte == b' ');
     let (number, kind) = (words.next()?, words.next()?);
@@ -32,12 +32,12 @@ fn witness_lines(line: &[u8]) -> Option<u64> {
     number_of(words.nth(1)?)
 }
 
-/// How far a certificate was read in the blocks of its policies.
+/// How far a certificate was read through the blocks of its policies.
 #[derive(Clone, Copy, Debug, PartialEq, Eq)]
 pub struct Blocks {
-    /// How many of them were begun.
+    /// How many blocks have begun.
     begun: u32,
-    /// How many lines of the last of them are still to come.
+    /// How many lines of the last block are still to come.
     left: u64,
 }
 
@@ -47,7 +47,7 @@ impl Blocks {
         Blocks { begun: 0, left: 0 }
     }
 
-    /// Takes a line that is not rejected, and answers whether a block may still follow.
+    /// Takes a line that is not rejected, and returns whether a block may still follow.
     pub fn take(&mut self, line: &[u8]) -> bool {
         if self.left > 0 {
             self.left -= 1;
@@ -58,8 +58,8 @@ impl Blocks {
         line != b"log".as_slice()
     }
 
-    /// The number of the policy, from 1, to whose block the next line belongs, which is rejected by
-    /// this word, if it is known to belong to one.
+    /// The number of the policy, counted from 1, whose block the next line belongs to, where that
+    /// line is rejected with this word; `None` if it is not known to belong to a block.
     pub fn policy(&self, line: &[u8], word: &[u8]) -> Option<u32> {
         let next = self.begun.checked_add(1);
         match word {

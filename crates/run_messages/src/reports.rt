@@ -1,4 +1,4 @@
-//! The lines of a report, as far as messages look at them.
+//! The lines of a report that messages are about.
 
 fn is_number(word: &[u8]) -> bool {
     word.iter().all(|byte| byte.is_ascii_digit())
@@ -15,7 +15,7 @@ pub fn is_barred(line: &[u8]) -> bool {
         && answer == b"yes".as_slice()
 }
 
-/// Whether a line of the text begins such a block.
+/// Whether a line of the text begins the block of a blocked or through policy whose answer is yes.
 pub fn has_barred(text: &[u8]) -> bool {
     text.split(|byte| *byte == b'\n').any(is_barred)
 }

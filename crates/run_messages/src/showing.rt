@@ -1,12 +1,12 @@
-//! Bytes of files as they may be shown.
+//! Bytes of files, made safe to show on a terminal.
 use std::alloc::{AllocError, Global};
 use std::str;
 
 /// How many bytes of a line are shown: a few rows of a terminal.
 const SHOWN: usize = 300;
 
-/// The front of a line, as much as is shown: a file whose line feeds were lost is one line. No
-/// character of it is cut.
+/// The first bytes of a line, as many as are shown: a file that lost its line feeds is one long
+/// line. No character is cut in two.
 pub fn front_of(line: &[u8]) -> &[u8] {
     let Some(front) = line.get(..SHOWN) else {
         return line;
@@ -19,7 +19,7 @@ pub fn front_of(line: &[u8]) -> &[u8] {
     }
 }
 
-/// Whether these bytes are text without a control character beyond ASCII.
+/// Whether these bytes are UTF-8 without control characters beyond ASCII.
 fn is_text(bytes: &[u8]) -> bool {
     match str::from_utf8(bytes) {
         Ok(text) => !text.chars().any(|c| !c.is_ascii() && c.is_control()),
@@ -43,8 +43,9 @@ fn push_shown(
     Ok(())
 }
 
-/// The bytes with a question mark for each control character but tabs, so that the content of a
-/// file can't steer a terminal, and with an escape for each byte above 127 of what is no text.
+/// The bytes with a question mark for each control character except tabs, so that a file cannot
+/// steer the terminal. If they are not UTF-8, or have a control character beyond ASCII, each byte
+/// above 127 is shown as an escape.
 pub fn visible(alloc: Global, bytes: &[u8]) -> Result<Vec<u8>, AllocError> {
     let is_text = is_text(bytes);
     let mut shown = Vec::new(alloc);

@@ -24,7 +24,7 @@ fn lines_and_words_are_found(rt: HostRuntime) -> Result<(), Fail> {
     Ok(())
 }
 
-/// Command lines, and what is said of them; where nothing is, that the form is all that is printed.
+/// Command lines, and what is said of each: what is wrong, or the form of the command alone.
 const COMMAND_LINES: &[(&str, &str)] = &[
     ("verify", "verify DOC"),
     ("nodes d --help", "nodes DOC FROM TO K"),
@@ -134,7 +134,7 @@ const COMMAND_LINES: &[(&str, &str)] = &[
     ("what d", "none"),
 ];
 
-/// What is said of the words of a command line.
+/// The message about the words of a command line.
 fn said_of_words(alloc: Global, line: &str) -> Result<String, Fail> {
     let mut words = Vec::new(alloc);
     for word in line.split(' ') {
@@ -165,7 +165,7 @@ fn wrong_words_are_named(rt: HostRuntime) -> Result<(), Fail> {
     Ok(())
 }
 
-/// Texts that are no documents, and what is said of them first.
+/// Texts that are no documents, and how the message about each begins.
 const TEXTS: &[(&str, &str)] = &[
     (
         "{\n \"version\": 1,\n}\n",

@@ -1,4 +1,4 @@
-//! Why words match no command, as a sentence: what the reader of the words says is wrong.
+//! Why words match no command, in a sentence: what the reader of the words finds wrong.
 
 use arc_base::Name;
 use arc_base::limits::{NAME_LIMIT, ROUTER_LIMIT};
@@ -7,14 +7,14 @@ use std::alloc::{AllocError, Global};
 use std::net::Ipv4Addr;
 use std::str;
 
-/// The first address of the network of an address and a length up to 32.
+/// The first address of the network of an address and a prefix length.
 fn network(address: u32, length: u64) -> Ipv4Addr {
     let past = 32u64.saturating_sub(length).min(32) as u32;
     let mask = u32::MAX.checked_shl(past).unwrap_or(0);
     Ipv4Addr::from_bits(address & mask)
 }
 
-/// What a value is, where a word was not.
+/// What the value has to be, or what is wrong with the word.
 fn wanted(alloc: Global, fault: Fault) -> Result<String, AllocError> {
     match fault {
         Fault::Missing => format!(in alloc; "is missing"),
@@ -37,7 +37,7 @@ fn wanted(alloc: Global, fault: Fault) -> Result<String, AllocError> {
     }
 }
 
-/// A value is wrong.
+/// The sentence about a wrong value.
 fn value_sentence(
     alloc: Global,
     form: CommandForm,
@@ -54,7 +54,8 @@ fn value_sentence(
     format!(in alloc; "wrong word: {word} ({hyphens}{name} {why})")
 }
 
-/// What `clap` says of words that are in no command's form, without its usage, in one line.
+/// What `clap` says of words that do not have the form of their command, without its usage, in one
+/// line.
 fn form_sentence(alloc: Global, said: &str) -> Result<String, AllocError> {
     let said = said.strip_prefix("error: ").unwrap_or(said);
     let mut sentence = String::new(alloc);
@@ -73,7 +74,7 @@ fn form_sentence(alloc: Global, said: &str) -> Result<String, AllocError> {
     Ok(sentence)
 }
 
-/// Why words are no command.
+/// The sentence about words that match no command.
 fn sentence(alloc: Global, form: CommandForm, wrong: &WrongWords) -> Result<String, AllocError> {
     match wrong {
         WrongWords::NotText => format!(in alloc; "a word is not UTF-8"),
@@ -87,9 +88,8 @@ fn is_help(word: &[u8]) -> bool {
     matches!(word, b"--help" | b"-h")
 }
 
-/// Why words whose first is the name of this command do not match its form. There is nothing to
-/// say where they do, and where no others follow or they ask for help, so that the form alone is
-/// wanted.
+/// Why words that begin with the name of this command do not match its form. `None` if they match
+/// it, or if they are the name alone or ask for help, so that only the form is wanted.
 pub fn words_fault(alloc: Global, form: CommandForm, words: &[Name]) -> Option<String> {
     if words.len() < 2 || words.iter().any(|word| is_help(word.bytes())) {
         return None;

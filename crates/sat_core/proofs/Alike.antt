@@ -64,7 +64,9 @@ told clauses held of h =
     record { lits = f.value; is = f.is; alike = f.holds }
 
 -- a clause that is kept in the pool
-pub placed-lits : (clauses : List Numbered) (places : List (Option Place)) (pool : State) (held : Held) (p : Place) (of : List Lit) → IsLinked pool.vars clauses pool → IsPlaced (record { clauses = clauses; places = places }) pool → slice_get places held.0 ≡ Some (Some p) → ((e : Entry) → clause_in pool p ≡ Some e → of ≡ e.lits) → IsSomeAnd (clause_at clauses held) (λ lits. AreAlike lits of)
+pub placed-lits : (clauses : List Numbered) (places : List (Option Place)) (pool : State) (held : Held) (p : Place) (of : List Lit) →
+    IsLinked pool.vars clauses pool → IsPlaced (record { clauses = clauses; places = places }) pool → slice_get places held.0 ≡ Some (Some p) →
+    ((e : Entry) → clause_in pool p ≡ Some e → of ≡ e.lits) → IsSomeAnd (clause_at clauses held) (λ lits. AreAlike lits of)
 placed-lits clauses places pool held p of linked placed at is =
     let f = and-some (clause_in pool p) (λ (e : Entry). e.id ≡ held.0) (placed.live held.0 p at) in
     let (n, there, same) = in-list pool.vars clauses pool p f.value linked f.is in

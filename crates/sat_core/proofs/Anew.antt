@@ -39,7 +39,9 @@ move-of store pool moves p q w h =
     let f = and-some (clause_at pool q) (λ (e : Entry). slice_get store.places e.id ≡ Some (Some p)) (w.move p q h) in
     record { entry = f.value; is = f.is; place = f.holds }
 
-pub anew-step : (store : Stored) (pool : State) (moves : Moves) (after : List (Option Place)) (i at : ℕ) (d : Place × Place) → AreToMove store pool moves → AreAnew store.places after (take i moves) → i < length moves → (w : IsMove store pool (get_or moves i d).0 (get_or moves i d).1) → at ≡ w.entry.id → AreAnew store.places (set after at (Some (get_or moves i d).1)) (take (i + 1) moves)
+pub anew-step : (store : Stored) (pool : State) (moves : Moves) (after : List (Option Place)) (i at : ℕ) (d : Place × Place) → AreToMove store pool moves →
+    AreAnew store.places after (take i moves) → i < length moves → (w : IsMove store pool (get_or moves i d).0 (get_or moves i d).1) → at ≡ w.entry.id →
+    AreAnew store.places (set after at (Some (get_or moves i d).1)) (take (i + 1) moves)
 anew-step store pool moves after i at d to anew within w at_is =
     let m : Place × Place = get_or moves i d in
     let here : slice_get store.places at ≡ Some (Some m.0) = ap (λ (k : ℕ). slice_get store.places k) at_is ∙ w.place in

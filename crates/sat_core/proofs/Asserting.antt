@@ -94,7 +94,8 @@ module _ (s : State) (sound : IsSound s) (lits : List Lit) (asserts : IsAssertin
       let (e, held, is) = on-contains (up_to s.trail level) (negated two) on in
       let f = from_filter (λ (x : Assigned). leb x.level level) s.trail e held in
       let (k, within, at) = f.0 in
-      let there : entry_of s.trail (variable e.lit) ≡ Some e = subst (λ (x : Assigned). entry_of s.trail (variable x.lit) ≡ Some x) at (entry-at s.vars s.trail k e (stands s.clauses s.vars s.trail sound.trail.entries) within) in
+      let there : entry_of s.trail (variable e.lit) ≡ Some e = subst (λ (x : Assigned). entry_of s.trail (variable x.lit) ≡ Some x) at
+      (entry-at s.vars s.trail k e (stands s.clauses s.vars s.trail sound.trail.entries) within) in
       let found : entry_of s.trail (variable two) ≡ Some e = ap (entry_of s.trail) (sym (variable-negated two) ∙ ap variable (sym is)) ∙ there in
       let level_is : e.level ≡ s.level = some-is (entry_of s.trail (variable two)) e (λ (x : Assigned). x.level ≡ s.level) found asserts.second in
       omega (arith, level_is, leb-true e.level level f.1)
@@ -118,11 +119,15 @@ module _ (s : State) (sound : IsSound s) (lits : List Lit) (asserts : IsAssertin
   })
 
   -- once its first literal is true on the current level, its watches guard it
-  pub guards_lemma : (floor done : ℕ) (e : Assigned) (of : List Lit) → done ≤ length s.trail → e.lit ≡ one → ((level : ℕ) → s.level ≤ level → up_to (s.trail ++ e ∷ []) level ≡ s.trail ++ e ∷ []) → (lit_at of 0 ≡ one) × (lit_at of 1 ≡ two) → IsGuarded floor (take done (s.trail ++ e ∷ [])) (s.trail ++ e ∷ []) of
+  pub guards_lemma : (floor done : ℕ) (e : Assigned) (of : List Lit) → done ≤ length s.trail → e.lit ≡ one →
+      ((level : ℕ) → s.level ≤ level → up_to (s.trail ++ e ∷ []) level ≡ s.trail ++ e ∷ []) → (lit_at of 0 ≡ one) × (lit_at of 1 ≡ two) →
+      IsGuarded floor (take done (s.trail ++ e ∷ [])) (s.trail ++ e ∷ []) of
   guards_lemma floor done e of within is whole watch =
       let front : take done (s.trail ++ e ∷ []) ≡ take done s.trail = take-append-le done s.trail (e ∷ []) within in
       let ys = s.trail ++ e ∷ [] in
-      let one_guarded : Guards floor (take done ys) ys one two = λ level above on. absurd (first_not_false (on-take s.trail done (negated one) (on-up_to (take done s.trail) level (negated one) (subst (λ (zs : List Assigned). IsTrue (is_on (up_to zs level) (negated one))) front on)))) in
+      let one_guarded : Guards floor (take done ys) ys one two = λ level above on. absurd
+      (first_not_false (on-take s.trail done (negated one)
+      (on-up_to (take done s.trail) level (negated one) (subst (λ (zs : List Assigned). IsTrue (is_on (up_to zs level) (negated one))) front on)))) in
       let two_guarded : Guards floor (take done ys) ys two one = λ level above on.
       let late = second_late level (up_to-taken s.trail done level (negated two) (subst (λ (zs : List Assigned). IsTrue (is_on (up_to zs level) (negated two))) front on)) in
       subst (λ (zs : List Assigned). IsTrue (is_on zs one)) (sym (whole level late)) (subst (λ (l : Lit). IsTrue (is_on ys l)) is (on-last s.trail e)) in

@@ -1,5 +1,6 @@
 -- What a core keeps when it forgets a clause, and when its pool is compacted.
-use Rattle.std.proofs.Common.{◌≡◌, ◌≢◌, ℕ, ◌-◌, ◌<◌, ◌≤◌, inl, inr, Bool, option_map, List, length, take, All, Contains, Option, Some, None, IfSome, IsSomeAnd, IsTrue, refl, sym, ap, ◌∙◌, subst, arith}
+use Rattle.std.proofs.Common.{◌≡◌, ◌≢◌, ℕ, ◌-◌, ◌<◌, ◌≤◌, inl, inr, Bool, option_map, List, length, take}
+use Rattle.std.proofs.Common.{All, Contains, Option, Some, None, IfSome, IsSomeAnd, IsTrue, refl, sym, ap, ◌∙◌, subst, arith}
 use Rattle.std.specs.List.{slice_get}
 use Rattle.std.proofs.lemmas.Bool.{cases_lt}
 use Rattle.std.proofs.lemmas.Option.{slice_get_within}
@@ -31,7 +32,8 @@ use Rattle.sat_core.proofs.Removed.{no_clause, length_removed, from_removed, to_
 use Rattle.sat_core.proofs.Moved.{counted, same-on, decisions-moved, take-moved, length-moved, level-moved, at-moved, each-moved}
 
 -- the pool and the list lost the same clause
-pub linked-forgotten : (vars : ℕ) (clauses : List Numbered) (pool new : State) (at : ℕ) → at < length clauses → IsLinked vars clauses pool → IsMoved (length clauses - 1) at pool new → IsLinked vars (without_at clauses at) new
+pub linked-forgotten : (vars : ℕ) (clauses : List Numbered) (pool new : State) (at : ℕ) → at < length clauses → IsLinked vars clauses pool →
+    IsMoved (length clauses - 1) at pool new → IsLinked vars (without_at clauses at) new
 linked-forgotten vars clauses pool new at inside linked m = record {
   vars_are = m.vars ∙ linked.vars_are;
   sound = m.sound;
@@ -57,45 +59,55 @@ implies-moved last at before lits l h = record { held = h.held; others = subst (
 
 -- a reason that is not forgotten stays one
 reason-moved : (clauses : List Numbered) (at : ℕ) (before : List Assigned) (l : Lit) (r : Option Held) → at < length clauses → ((h : Held) → r ≡ Some h → h.0 ≢ at) →
-    IfSome r (λ h. IsSomeAnd (list_clause clauses h) (λ lits. Implies before lits l)) → IfSome (moved_reason (length clauses - 1) at r) (λ h. IsSomeAnd (list_clause (without_at clauses at) h) (λ lits. Implies (moved_entries (length clauses - 1) at before) lits l))
+    IfSome r (λ h. IsSomeAnd (list_clause clauses h) (λ lits. Implies before lits l)) →
+    IfSome (moved_reason (length clauses - 1) at r) (λ h. IsSomeAnd (list_clause (without_at clauses at) h) (λ lits. Implies (moved_entries (length clauses - 1) at before) lits l))
 reason-moved clauses at before l None inside other h = tt
 reason-moved clauses at before l (Some held) inside other h =
     let f = and-some (list_clause clauses held) (λ (lits : List Lit). Implies before lits l) h in
     let (c, there, lits_are) = clause-there clauses held f.value f.is in
     let to : Held = record { 0 = moved (length clauses - 1) at held.0 } in
-    let now : list_clause (without_at clauses at) to ≡ Some f.value = ap (λ (o : Option Numbered). option_map (λ (c : Numbered). c.lits) o) (to_removed no_clause clauses at inside held.0 c (other held refl) there) ∙ ap (λ (ls : List Lit). Some ls) lits_are in
-    some-and (list_clause (without_at clauses at) to) f.value (λ (lits : List Lit). Implies (moved_entries (length clauses - 1) at before) lits l) now (implies-moved (length clauses - 1) at before f.value l f.holds)
+    let now : list_clause (without_at clauses at) to ≡ Some f.value =
+    ap (λ (o : Option Numbered). option_map (λ (c : Numbered). c.lits) o) (to_removed no_clause clauses at inside held.0 c (other held refl) there) ∙ ap (λ (ls : List Lit). Some ls) lits_are in
+    some-and (list_clause (without_at clauses at) to) f.value (λ (lits : List Lit). Implies (moved_entries (length clauses - 1) at before) lits l) now
+    (implies-moved (length clauses - 1) at before f.value l f.holds)
 
-trail-forgotten : (clauses : List Numbered) (h : Held) (a : Assignment) → h.0 < length clauses → IsNoReason a.entries h → IsTrail clauses a.vars a.entries a.level → IsTrail (without_at clauses h.0) a.vars (moved_entries (length clauses - 1) h.0 a.entries) a.level
+trail-forgotten : (clauses : List Numbered) (h : Held) (a : Assignment) → h.0 < length clauses → IsNoReason a.entries h →
+    IsTrail clauses a.vars a.entries a.level → IsTrail (without_at clauses h.0) a.vars (moved_entries (length clauses - 1) h.0 a.entries) a.level
 trail-forgotten clauses h a inside free trail =
     record {
       entries = each-moved (MayFollow clauses a.vars) (MayFollow (without_at clauses h.0) a.vars) (length clauses - 1) h.0 a.entries (λ before e held m. record {
         range = m.range;
         unset = subst (λ (set : Lit → Bool). IsUnset set e.lit) (sym (same-on (length clauses - 1) h.0 before)) m.unset;
         level = m.level ∙ sym (counted (length clauses - 1) h.0 before e);
-        reason = reason-moved clauses h.0 before e.lit e.reason inside (λ other is same. All-contains (λ (x : Assigned). x.reason ≢ Some h) a.entries e free held (is ∙ ap (λ (k : ℕ). let x : Option Held = Some (record { 0 = k }) in x) same)) m.reason;
+        reason = reason-moved clauses h.0 before e.lit e.reason inside
+            (λ other is same. All-contains (λ (x : Assigned). x.reason ≢ Some h) a.entries e free held (is ∙ ap (λ (k : ℕ). let x : Option Held = Some (record { 0 = k }) in x) same)) m.reason;
       }) trail.entries;
       levels = trail.levels ∙ sym (decisions-moved (length clauses - 1) h.0 a.entries);
     }
 
 guards-moved : (last at floor done : ℕ) (xs : List Assigned) (w o : Lit) → Guards floor (take done xs) xs w o → Guards floor (take done (moved_entries last at xs)) (moved_entries last at xs) w o
 guards-moved last at floor done xs w o g level above on =
-    level-moved last at xs level o ∙ g level above (sym (ap (λ (ys : List Assigned). is_on (up_to ys level) (negated w)) (take-moved last at done xs) ∙ level-moved last at (take done xs) level (negated w)) ∙ on)
+    level-moved last at xs level o ∙ g level above (sym
+    (ap (λ (ys : List Assigned). is_on (up_to ys level) (negated w)) (take-moved last at done xs) ∙ level-moved last at (take done xs) level (negated w)) ∙ on)
 
-guarded-moved : (last at floor done : ℕ) (xs : List Assigned) (lits : List Lit) → IsGuarded floor (take done xs) xs lits → IsGuarded floor (take done (moved_entries last at xs)) (moved_entries last at xs) lits
+guarded-moved : (last at floor done : ℕ) (xs : List Assigned) (lits : List Lit) → IsGuarded floor (take done xs) xs lits →
+    IsGuarded floor (take done (moved_entries last at xs)) (moved_entries last at xs) lits
 guarded-moved last at floor done xs lits g = record {
   first = guards-moved last at floor done xs _ _ g.first;
   second = guards-moved last at floor done xs _ _ g.second;
 }
 
-rest-moved : (last at : ℕ) (clauses left : List Numbered) (xs : List Assigned) (level : ℕ) → ((P : Numbered → Type 0) → All P clauses → All P left) → IsAtRest clauses (is_on (up_to xs level)) → IsAtRest left (is_on (up_to (moved_entries last at xs) level))
+rest-moved : (last at : ℕ) (clauses left : List Numbered) (xs : List Assigned) (level : ℕ) → ((P : Numbered → Type 0) → All P clauses → All P left) →
+    IsAtRest clauses (is_on (up_to xs level)) → IsAtRest left (is_on (up_to (moved_entries last at xs) level))
 rest-moved last at clauses left xs level kept rest =
     let same : is_on (up_to (moved_entries last at xs) level) ≡ is_on (up_to xs level) = λ i l. level-moved last at xs level l i in
     subst (λ (set : Lit → Bool). IsAtRest left set) (sym same) (kept (λ c. RestsOn (is_on (up_to xs level)) c.lits) rest)
 
 -- a clause is forgotten
-pub kept-forgotten : (c : Inside) (h : Held) (pool : State) (q : Progress) → IsKeptCore c → h.0 < length c.store.clauses → IsNoReason c.trail.entries h → IsMoved (length c.store.clauses - 1) h.0 c.pool pool →
-    (length c.store.clauses - 1 < c.progress.seen → q.seen ≡ length c.store.clauses - 1) → (c.progress.seen ≤ length c.store.clauses - 1 → q.seen ≡ 0) → q.done ≡ c.progress.done → q.floor ≡ c.progress.floor →
+pub kept-forgotten : (c : Inside) (h : Held) (pool : State) (q : Progress) → IsKeptCore c → h.0 < length c.store.clauses → IsNoReason c.trail.entries h →
+    IsMoved (length c.store.clauses - 1) h.0 c.pool pool →
+    (length c.store.clauses - 1 < c.progress.seen → q.seen ≡ length c.store.clauses - 1) → (c.progress.seen ≤ length c.store.clauses - 1 → q.seen ≡ 0) →
+    q.done ≡ c.progress.done → q.floor ≡ c.progress.floor →
     IsKeptCore (record c { store = without_row c.store h.0; pool = pool; trail = record c.trail { entries = moved_entries (length c.store.clauses - 1) h.0 c.trail.entries }; progress = q })
 kept-forgotten c h pool q kept inside free m all anew done floor =
     let a = c.trail in
@@ -141,7 +153,8 @@ kept-forgotten c h pool q kept inside free m all anew done floor =
         guarded = λ r. if-some (clause_at pool r) _ (λ e is.
             let f = m.from r e is in
             let g = at-some (clause_at c.pool r) f.0 (λ (y : Entry). IsGuarded p.floor (take p.done xs) xs y.lits) f.1 (u.guarded r) in
-            subst (λ (n : ℕ). IsGuarded n (take q.done ys) ys e.lits) (sym floor) (subst (λ (n : ℕ). IsGuarded p.floor (take n ys) ys e.lits) (sym done) (subst (λ (ls : List Lit). IsGuarded p.floor (take p.done ys) ys ls) (sym f.2)
+            subst (λ (n : ℕ). IsGuarded n (take q.done ys) ys e.lits) (sym floor)
+            (subst (λ (n : ℕ). IsGuarded p.floor (take n ys) ys e.lits) (sym done) (subst (λ (ls : List Lit). IsGuarded p.floor (take p.done ys) ys ls) (sym f.2)
             (guarded-moved (length clauses - 1) h.0 p.floor p.done xs f.0.lits g))));
         late = λ k e above is lower fl le.
             let r = at-moved (length clauses - 1) h.0 xs k e is in
@@ -150,7 +163,8 @@ kept-forgotten c h pool q kept inside free m all anew done floor =
     }
 
 -- the pool is compacted
-pub kept-compacted : (c : Inside) (store : Stored) (pool : State) (before after : List (Place × Place)) → IsKeptCore c → IsCompacted c.pool pool before after → IsSound pool → store.clauses ≡ c.store.clauses → IsPlaced store pool → IsKeptCore (record c { store = store; pool = pool })
+pub kept-compacted : (c : Inside) (store : Stored) (pool : State) (before after : List (Place × Place)) → IsKeptCore c → IsCompacted c.pool pool before after →
+    IsSound pool → store.clauses ≡ c.store.clauses → IsPlaced store pool → IsKeptCore (record c { store = store; pool = pool })
 kept-compacted c store pool before after kept m sound clauses placed =
     let u = kept.underway in
     let from : (q : Place) (e : Entry) → clause_at pool q ≡ Some e → (p : Place) × (clause_at c.pool p ≡ Some e) = λ q e is.
@@ -168,7 +182,8 @@ kept-compacted c store pool before after kept m sound clauses placed =
         linked = record {
           vars_are = m.vars ∙ u.linked.vars_are;
           sound = sound;
-          held = λ q. if-some (clause_at pool q) _ (λ e is. let t = from q e is in at-some (clause_at c.pool t.0) e (λ (x : Entry). IsSomeAnd (slice_get c.store.clauses x.id) (λ n. AreSame n.lits x.lits)) t.1 (u.linked.held t.0));
+          held = λ q. if-some (clause_at pool q) _
+              (λ e is. let t = from q e is in at-some (clause_at c.pool t.0) e (λ (x : Entry). IsSomeAnd (slice_get c.store.clauses x.id) (λ n. AreSame n.lits x.lits)) t.1 (u.linked.held t.0));
           all = λ k n is. elim (u.linked.all k n is) [
             | inr beside ↦ inr beside
             | inl i ↦
@@ -187,7 +202,8 @@ kept-compacted c store pool before after kept m sound clauses placed =
         narrow = u.narrow;
         done = u.done;
         floor = u.floor;
-        guarded = λ q. if-some (clause_at pool q) _ (λ e is. let t = from q e is in at-some (clause_at c.pool t.0) e (λ (x : Entry). IsGuarded c.progress.floor (take c.progress.done c.trail.entries) c.trail.entries x.lits) t.1 (u.guarded t.0));
+        guarded = λ q. if-some (clause_at pool q) _ (λ e is. let t =
+            from q e is in at-some (clause_at c.pool t.0) e (λ (x : Entry). IsGuarded c.progress.floor (take c.progress.done c.trail.entries) c.trail.entries x.lits) t.1 (u.guarded t.0));
         late = u.late;
       };
     })

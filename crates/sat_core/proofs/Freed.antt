@@ -38,7 +38,8 @@ renumbered-by s new p id new_id sound found is new_sound =
     let here : clause_at new p ≡ Some (g f.value) = ap (λ (t : State). clause_at t p) is ∙ get-changed_same s.clauses p g f.value f.is in
     let there : (q : Place) → (q ≡ p → ⊥) → clause_at new q ≡ clause_at s q = λ q o. ap (λ (t : State). clause_at t q) is ∙ get-changed_other s.clauses p q g o in
     let number : new_id ≡ moved id new_id f.value.id = sym (ap (moved id new_id) f.holds ∙ moved-last id new_id) in
-    let number_other : (q : Place) (e : Entry) → clause_at s q ≡ Some e → (q ≡ p → ⊥) → e.id ≡ moved id new_id e.id = λ q e at o. sym (moved-other id new_id e.id (λ same. other-id s p q f.value e sound f.is at o (same ∙ sym f.holds))) in
+    let number_other : (q : Place) (e : Entry) → clause_at s q ≡ Some e → (q ≡ p → ⊥) → e.id ≡ moved id new_id e.id =
+    λ q e at o. sym (moved-other id new_id e.id (λ same. other-id s p q f.value e sound f.is at o (same ∙ sym f.holds))) in
     record {
       vars = ap (λ (t : State). t.vars) is;
       sound = new_sound;

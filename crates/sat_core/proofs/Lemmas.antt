@@ -1,5 +1,6 @@
 -- What a core keeps when it learns a lemma above level 0.
-use Rattle.std.proofs.Common.{◌≡◌, ◌≢◌, ℕ, ◌+◌, ◌-◌, ◌^◌, ◌<◌, ◌≤◌, inl, inr, List, [], ◌∷◌, ◌++◌, length, max, take, All, Some, IsSomeAnd, Option, IfSome, option_map, refl, sym, ap, ◌∙◌, subst, arith}
+use Rattle.std.proofs.Common.{◌≡◌, ◌≢◌, ℕ, ◌+◌, ◌-◌, ◌^◌, ◌<◌, ◌≤◌, inl, inr, List, [], ◌∷◌, ◌++◌}
+use Rattle.std.proofs.Common.{length, max, take, All, Some, IsSomeAnd, Option, IfSome, option_map, refl, sym, ap, ◌∙◌, subst, arith}
 use Rattle.std.specs.List.{slice_get}
 use Rattle.std.proofs.lemmas.Bool.{cases_lt}
 use Rattle.std.proofs.lemmas.List.{length_push}
@@ -33,9 +34,17 @@ some-at : {X : Type 0} (o : Option X) (x : X) (P : X → Type 0) → o ≡ Some 
 some-at {X} o x P is h = subst (λ (q : Option X). IsSomeAnd q P) is h
 
 -- a lemma joins the list and the pool, and implies its first literal
-pub kept-learnt : (c : Inside) (n : Numbered) (place : Option Place) (pool : Pool) (last : ℕ) (held : Held) → IsKeptCore c → IsAsserting (state c) n.lits → All (IsOf c.trail.vars) n.lits → length c.store.clauses < 2 ^ 32 - 1 → All (λ d. d.id ≢ n.id) c.store.clauses → last ≡ max c.last_id n.id → held.0 ≡ length c.store.clauses →
+pub kept-learnt : (c : Inside) (n : Numbered) (place : Option Place) (pool : Pool) (last : ℕ) (held : Held) → IsKeptCore c → IsAsserting (state c) n.lits →
+    All (IsOf c.trail.vars) n.lits → length c.store.clauses < 2 ^ 32 - 1 → All (λ d. d.id ≢ n.id) c.store.clauses → last ≡ max c.last_id n.id → held.0 ≡ length c.store.clauses →
     IsLinked c.trail.vars (c.store.clauses ++ n ∷ []) pool → IsPlaced (with_row c.store n place) pool → Gains c.pool (lit_at n.lits 0) (lit_at n.lits 1) pool →
-    IsKeptCore (record c { store = with_row c.store n place; pool = pool; trail = with_entry c.trail (implied c.trail (lit_at n.lits 0) held); last_id = last; progress = record { seen = held.0 + 1; done = c.progress.done; floor = c.progress.floor } })
+    IsKeptCore (record c {
+      store = with_row c.store n place;
+      pool = pool;
+      trail = with_entry c.trail (implied c.trail (lit_at n.lits 0) held);
+      last_id = last;
+      progress =
+          record { seen = held.0 + 1; done = c.progress.done; floor = c.progress.floor };
+    })
 kept-learnt c n place pool last held kept asserts range few fresh most held_is linked placed gains =
     let a = c.trail in
     let clauses = c.store.clauses in
@@ -50,7 +59,8 @@ kept-learnt c n place pool last held kept asserts range few fresh most held_is l
     let seen : p.seen ≡ length clauses = elim (cases_lt p.seen (length clauses)) [ inl l ↦ absurd (omega (arith, u.fresh l, asserts.risen)) | inr m ↦ omega (arith, m, u.seen) ] in
     let in_range : AreInRange a.vars more = All-push (λ (d : Numbered). All (IsOf a.vars) d.lits) clauses n sound.range range in
     let at : option_map (λ (d : Numbered). d.lits) (slice_get more held.0) ≡ Some n.lits = ap (option_map (λ (d : Numbered). d.lits)) (ap (slice_get more) held_is ∙ get-last clauses n) in
-    let continues : Continues more a b = continues-implied more a n.lits (lit_at n.lits 0) held (trail-more clauses n a sound.trail) at range asserts.unset (implies_first (state c) sound n.lits asserts) in
+    let continues : Continues more a b = continues-implied more a n.lits (lit_at n.lits 0) held (trail-more clauses n a sound.trail) at range asserts.unset
+    (implies_first (state c) sound n.lits asserts) in
     record {
       sound = record {
         range = in_range;
@@ -81,7 +91,8 @@ kept-learnt c n place pool last held kept asserts range few fresh most held_is l
         done = omega (arith, u.done, trail_size);
         floor = u.floor;
         guarded = λ q. elim (gains q) [
-          | inl old ↦ subst (λ o. IfSome o (λ x. IsGuarded p.floor (take p.done b.entries) b.entries x.lits)) (sym old) (if-some (clause_at c.pool q) _ (λ x is. guarded-grown p.floor p.done a.entries (e ∷ []) x.lits u.done
+          | inl old ↦ subst (λ o. IfSome o (λ x. IsGuarded p.floor (take p.done b.entries) b.entries x.lits)) (sym old)
+              (if-some (clause_at c.pool q) _ (λ x is. guarded-grown p.floor p.done a.entries (e ∷ []) x.lits u.done
               (at-some (clause_at c.pool q) x (λ (y : Entry). IsGuarded p.floor (take p.done a.entries) a.entries y.lits) is (u.guarded q))))
           | inr new ↦ if-some (clause_at pool q) _ (λ x is.
               guards_lemma (state c) sound n.lits asserts p.floor p.done e x.lits u.done refl (λ level over. level-over more b level continues.trail over)

@@ -39,6 +39,7 @@ pub place-of-row : (xs : List Row) (k : ℕ) (r : Row) → slice_get xs k ≡ So
 place-of-row xs k r at = slice_get-map place_in xs k ∙ ap (λ (o : Option Row). option_map place_in o) at
 
 -- the place in the pool that the list gives a clause
-pub place-is : (s : Inside) (now : Stored) (k : ℕ) (r d : Row) (id : ℕ) (p : Place) → stored s ≡ now → k < length s.rows.items → r ≡ get_or s.rows.items k d → r ≡ Watched id p → slice_get now.places k ≡ Some (Some p)
+pub place-is : (s : Inside) (now : Stored) (k : ℕ) (r d : Row) (id : ℕ) (p : Place) → stored s ≡ now → k < length s.rows.items → r ≡ get_or s.rows.items k d →
+    r ≡ Watched id p → slice_get now.places k ≡ Some (Some p)
 place-is s now k r d id p view within at is =
     ap (λ (t : Stored). slice_get t.places k) (sym view) ∙ place-of-row s.rows.items k r (row-at s.rows.items k r d within at) ∙ ap (λ (x : Row). Some (place_in x)) is

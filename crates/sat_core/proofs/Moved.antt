@@ -1,5 +1,6 @@
 -- Trails whose reasons moved: nothing else changes.
-use Rattle.std.proofs.Common.{◌≡◌, ◌≢◌, ℕ, zero, suc, ◌+◌, ◌<◌, ◌≤◌, ◌==◌, Bool, true, false, ◌||◌, cond, List, [], ◌∷◌, ◌++◌, length, map, get_or, set, take, drop, Contains, Option, Some, None, is_none, vec_capacity, leb, eqb, length-append, refl, sym, ap, ◌∙◌, subst, arith}
+use Rattle.std.proofs.Common.{◌≡◌, ◌≢◌, ℕ, zero, suc, ◌+◌, ◌<◌, ◌≤◌, ◌==◌, Bool, true, false, ◌||◌, cond, List, [], ◌∷◌, ◌++◌, length}
+use Rattle.std.proofs.Common.{map, get_or, set, take, drop, Contains, Option, Some, None, is_none, vec_capacity, leb, eqb, length-append, refl, sym, ap, ◌∙◌, subst, arith}
 use Rattle.std.specs.List.{slice_get}
 use Rattle.std.specs.Option.{option_map}
 use Rattle.std.proofs.lemmas.Bool.{cond-false, ne_eqb}
@@ -39,14 +40,16 @@ pub decisions-moved : (last at : ℕ) (xs : List Assigned) → decisions (moved_
 decisions-moved last at [] = refl
 decisions-moved last at (x ∷ xs) =
     let g : Assigned → ℕ = λ (e : Assigned). cond (is_none e.reason) 1 0 in
-    sum_by-cons g (moved_entry last at x) (moved_entries last at xs) ∙ ap (λ b. cond b 1 0 + decisions (moved_entries last at xs)) (none-moved last at x.reason) ∙ ap (λ (n : ℕ). cond (is_none x.reason) 1 0 + n) (decisions-moved last at xs) ∙ sym (sum_by-cons g x xs)
+    sum_by-cons g (moved_entry last at x) (moved_entries last at xs) ∙ ap (λ b. cond b 1 0 + decisions (moved_entries last at xs)) (none-moved last at x.reason)
+    ∙ ap (λ (n : ℕ). cond (is_none x.reason) 1 0 + n) (decisions-moved last at xs) ∙ sym (sum_by-cons g x xs)
 
 pub up_to-moved : (last at : ℕ) (xs : List Assigned) (level : ℕ) → up_to (moved_entries last at xs) level ≡ moved_entries last at (up_to xs level)
 up_to-moved last at [] level = refl
 up_to-moved last at (x ∷ xs) level =
     let f = moved_entry last at in
     let later = up_to-moved last at xs level in
-    elim (leb x.level level) as (λ b. cond b (f x ∷ up_to (moved_entries last at xs) level) (up_to (moved_entries last at xs) level) ≡ moved_entries last at (cond b (x ∷ up_to xs level) (up_to xs level))) [
+    elim (leb x.level level) as (λ b. cond b (f x ∷ up_to (moved_entries last at xs) level) (up_to (moved_entries last at xs) level) ≡ moved_entries last at
+    (cond b (x ∷ up_to xs level) (up_to xs level))) [
       | true ↦ ap (λ (ys : List Assigned). f x ∷ ys) later
       | false ↦ later
     ]
@@ -58,7 +61,9 @@ pub length-moved : (last at : ℕ) (xs : List Assigned) → length (moved_entrie
 length-moved last at xs = length-map xs (moved_entry last at)
 
 pub counted : (last at : ℕ) (before : List Assigned) (e : Assigned) → decisions (moved_entries last at before ++ moved_entry last at e ∷ []) ≡ decisions (before ++ e ∷ [])
-counted last at before e = decisions-push (moved_entries last at before) (moved_entry last at e) ∙ ap (λ (n : ℕ). n + cond (is_none (moved_reason last at e.reason)) 1 0) (decisions-moved last at before) ∙ ap (λ b. decisions before + cond b 1 0) (none-moved last at e.reason) ∙ sym (decisions-push before e)
+counted last at before e = decisions-push (moved_entries last at before) (moved_entry last at e)
+    ∙ ap (λ (n : ℕ). n + cond (is_none (moved_reason last at e.reason)) 1 0) (decisions-moved last at before) ∙ ap (λ b. decisions before + cond b 1 0) (none-moved last at e.reason)
+    ∙ sym (decisions-push before e)
 
 -- what is true up to a level stays so
 pub level-moved : (last at : ℕ) (xs : List Assigned) (level : ℕ) (l : Lit) → is_on (up_to (moved_entries last at xs) level) l ≡ is_on (up_to xs level) l
@@ -91,7 +96,8 @@ parts f (x ∷ xs) (b ∷ before) e after h =
     let p = parts f xs before e after later in
     record { front = x ∷ p.front; item = p.item; rest = p.rest; is = ap (λ ys. x ∷ ys) p.is; before_is = ap (λ ys. f x ∷ ys) p.before_is ∙ ap (λ y. y ∷ before) first; item_is = p.item_is }
 
-pub each-moved : (R S : List Assigned → Assigned → Type 0) (last at : ℕ) (xs : List Assigned) → ((before : List Assigned) (e : Assigned) → Contains xs e → R before e → S (moved_entries last at before) (moved_entry last at e)) → EachFollows R xs → EachFollows S (moved_entries last at xs)
+pub each-moved : (R S : List Assigned → Assigned → Type 0) (last at : ℕ) (xs : List Assigned) →
+    ((before : List Assigned) (e : Assigned) → Contains xs e → R before e → S (moved_entries last at before) (moved_entry last at e)) → EachFollows R xs → EachFollows S (moved_entries last at xs)
 each-moved R S last at xs step each before after e h =
     let p = parts (moved_entry last at) xs before e after h in
     let held : Contains xs p.item = subst (λ (ys : List Assigned). Contains ys p.item) (sym p.is) (Contains-append_right p.front (p.item ∷ p.rest) p.item (Contains-head p.item p.rest)) in
@@ -107,8 +113,10 @@ same-reason last at (Some h) other =
 pub none-to-move : (last at : ℕ) (xs : List Assigned) → IsNoReason xs (record { 0 = last }) → moved_entries last at xs ≡ xs
 none-to-move last at [] none = refl
 none-to-move last at (x ∷ xs) none =
-    let here : moved_entry last at x ≡ x = ap (λ (r : Option Held). let e : Assigned = record x { reason = r } in e) (same-reason last at x.reason (All-head (λ (e : Assigned). e.reason ≢ Some (record { 0 = last })) x xs none)) in
-    ap (λ (e : Assigned). e ∷ moved_entries last at xs) here ∙ ap (λ (ys : List Assigned). x ∷ ys) (none-to-move last at xs (All-tail (λ (e : Assigned). e.reason ≢ Some (record { 0 = last })) x xs none))
+    let here : moved_entry last at x ≡ x = ap (λ (r : Option Held). let e : Assigned = record x { reason = r } in e)
+    (same-reason last at x.reason (All-head (λ (e : Assigned). e.reason ≢ Some (record { 0 = last })) x xs none)) in
+    ap (λ (e : Assigned). e ∷ moved_entries last at xs) here ∙ ap (λ (ys : List Assigned). x ∷ ys)
+    (none-to-move last at xs (All-tail (λ (e : Assigned). e.reason ≢ Some (record { 0 = last })) x xs none))
 
 -- the list with its first items changed
 abbrev pub mixed : {X : Type 0} → (X → X) → ℕ → List X → List X
@@ -123,7 +131,8 @@ pub mixed-step : {X : Type 0} (f : X → X) (xs : List X) (k : ℕ) (d : X) → 
 mixed-step f xs k d l = let next : suc k ≡ k + 1 = omega arith in mixed-next f xs k d l ∙ ap (λ (n : ℕ). mixed f n xs) next
 
 pub mixed-length : {X : Type 0} (f : X → X) (k : ℕ) (xs : List X) → length (mixed f k xs) ≡ length xs
-mixed-length f k xs = length-append (map f (take k xs)) (drop k xs) ∙ ap (λ (n : ℕ). n + length (drop k xs)) (length-map (take k xs) f) ∙ sym (length-append (take k xs) (drop k xs)) ∙ ap length (take-append-drop k xs)
+mixed-length f k xs = length-append (map f (take k xs)) (drop k xs) ∙ ap (λ (n : ℕ). n + length (drop k xs)) (length-map (take k xs) f) ∙ sym (length-append (take k xs) (drop k xs))
+    ∙ ap length (take-append-drop k xs)
 
 pub mixed-all : {X : Type 0} (f : X → X) (xs : List X) (k : ℕ) → length xs ≤ k → mixed f k xs ≡ map f xs
 mixed-all f xs k l = ap (λ ys. map f ys ++ drop k xs) (take_all k xs l) ∙ ap (λ ys. map f xs ++ ys) (drop_all k xs l) ∙ append-nil (map f xs)
@@ -145,7 +154,9 @@ places-moved last at xs places are = record {
 }
 
 -- a trail keeps what is true of it when reasons move
-pub kept-renamed : (t u : Inside) (last at : ℕ) → IsKeptTrail t → u.vars ≡ t.vars → u.entries.items ≡ moved_entries last at t.entries.items → u.places.items ≡ t.places.items → u.truths.items ≡ t.truths.items → u.level ≡ t.level → vec_capacity t.entries ≤ vec_capacity u.entries → u.lits.items ≡ t.lits.items → vec_capacity t.lits ≤ vec_capacity u.lits → IsKeptTrail u
+pub kept-renamed : (t u : Inside) (last at : ℕ) → IsKeptTrail t → u.vars ≡ t.vars → u.entries.items ≡ moved_entries last at t.entries.items →
+    u.places.items ≡ t.places.items → u.truths.items ≡ t.truths.items → u.level ≡ t.level → vec_capacity t.entries ≤ vec_capacity u.entries →
+    u.lits.items ≡ t.lits.items → vec_capacity t.lits ≤ vec_capacity u.lits → IsKeptTrail u
 kept-renamed t u last at kept vars items places truths level room lits lits_room =
     let xs = t.entries.items in
     let ys = moved_entries last at xs in

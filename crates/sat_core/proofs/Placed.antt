@@ -47,7 +47,8 @@ ids-moved pool new p c from at is turned q =
     elim (cases_eq q.0 p.0) [
       | inl e ↦
           let q_is = same-place q p e in
-          ap (λ (o : Option Entry). option_map (λ (x : Entry). x.id) o) (ap (clause_at new) q_is ∙ ap (λ (t : State). clause_at t p) made ∙ get-put_same pool.clauses p d) ∙ sym (ap (λ (o : Option Entry). option_map (λ (x : Entry). x.id) o) (ap (clause_at pool) q_is ∙ is))
+          ap (λ (o : Option Entry). option_map (λ (x : Entry). x.id) o) (ap (clause_at new) q_is ∙ ap (λ (t : State). clause_at t p) made ∙ get-put_same pool.clauses p d)
+          ∙ sym (ap (λ (o : Option Entry). option_map (λ (x : Entry). x.id) o) (ap (clause_at pool) q_is ∙ is))
       | inr o ↦ ap (λ (y : Option Entry). option_map (λ (x : Entry). x.id) y) (ap (λ (t : State). clause_at t q) made ∙ get-put_other pool.clauses p q d (λ g. o (ap (λ (r : Place). r.0) g)))
     ]
 
@@ -65,11 +66,13 @@ placed-beside store pool n h = record {
     | inl old ↦ h.live k p old
     | inr (end, is) ↦ absurd (none-some p (sym is))
   ];
-  known = λ p. if-some (clause_at pool p) _ (λ e is. slice_get-left store.places (None ∷ []) e.id (Some p) (at-some (clause_at pool p) e (λ (x : Entry). slice_get store.places x.id ≡ Some (Some p)) is (h.known p)));
+  known = λ p. if-some (clause_at pool p) _
+      (λ e is. slice_get-left store.places (None ∷ []) e.id (Some p) (at-some (clause_at pool p) e (λ (x : Entry). slice_get store.places x.id ≡ Some (Some p)) is (h.known p)));
 }
 
 -- and one that it takes
-pub placed-put : (store : Stored) (pool new : State) (n : Numbered) (p : Place) (at : ℕ) (lits : List Lit) → IsPlaced store pool → at ≡ length store.clauses → clause_at pool p ≡ None → new ≡ with_clause pool p at lits → IsPlaced (with_row store n (Some p)) new
+pub placed-put : (store : Stored) (pool new : State) (n : Numbered) (p : Place) (at : ℕ) (lits : List Lit) → IsPlaced store pool → at ≡ length store.clauses →
+    clause_at pool p ≡ None → new ≡ with_clause pool p at lits → IsPlaced (with_row store n (Some p)) new
 placed-put store pool new n p at lits h at_is none made =
     let d : Entry = record { id = at; lits = lits } in
     let here : clause_at new p ≡ Some d = ap (λ (t : State). clause_at t p) made ∙ get-put_same pool.clauses p d in
@@ -87,7 +90,8 @@ placed-put store pool new n p at lits h at_is none made =
         | inl g ↦
             let q_is = same-place q p g in
             let e_is : e ≡ d = same_Some e d (sym is ∙ ap (clause_at new) q_is ∙ here) in
-            ap (λ (k : ℕ). slice_get (store.places ++ Some p ∷ []) k) (ap (λ (x : Entry). x.id) e_is ∙ at_is ∙ sym h.size) ∙ get-last store.places (Some p) ∙ ap (λ (r : Place). Some (Some r)) (sym q_is)
+            ap (λ (k : ℕ). slice_get (store.places ++ Some p ∷ []) k) (ap (λ (x : Entry). x.id) e_is ∙ at_is ∙ sym h.size) ∙ get-last store.places (Some p)
+            ∙ ap (λ (r : Place). Some (Some r)) (sym q_is)
         | inr o ↦
             let old : clause_at pool q ≡ Some e = sym (there q (λ g. o (ap (λ (r : Place). r.0) g))) ∙ is in
             slice_get-left store.places (Some p ∷ []) e.id (Some q) (at-some (clause_at pool q) e (λ (x : Entry). slice_get store.places x.id ≡ Some (Some q)) old (h.known q))
@@ -99,13 +103,15 @@ set-last [] x y = refl
 set-last (z ∷ xs) x y = ap (λ ys. z ∷ ys) (set-last xs x y)
 
 -- after another clause was taken out of the pool
-pub freed-live : (store : Stored) (pool mid : State) (at k : ℕ) (p : Place) → IsPlaced store pool → IsFreed at pool mid → k ≢ at → slice_get store.places k ≡ Some (Some p) → IsSomeAnd (clause_at mid p) (λ e. e.id ≡ k)
+pub freed-live : (store : Stored) (pool mid : State) (at k : ℕ) (p : Place) → IsPlaced store pool → IsFreed at pool mid → k ≢ at →
+    slice_get store.places k ≡ Some (Some p) → IsSomeAnd (clause_at mid p) (λ e. e.id ≡ k)
 freed-live store pool mid at k p h freed other place =
     let f = and-some (clause_at pool p) (λ (e : Entry). e.id ≡ k) (h.live k p place) in
     some-and (clause_at mid p) f.value (λ (e : Entry). e.id ≡ k) (freed.to p f.value f.is (λ same. other (sym f.holds ∙ same))) f.holds
 
 -- the list and the pool lost the same clause
-pub placed-removed : (store : Stored) (pool new : State) (at : ℕ) → at < length store.clauses → IsPlaced store pool → IsMoved (length store.clauses - 1) at pool new → IsPlaced (without_row store at) new
+pub placed-removed : (store : Stored) (pool new : State) (at : ℕ) → at < length store.clauses → IsPlaced store pool →
+    IsMoved (length store.clauses - 1) at pool new → IsPlaced (without_row store at) new
 placed-removed store pool new at inside h m =
     let places = store.places in
     let within : at < length places = omega (arith, inside, h.size) in
@@ -124,11 +130,13 @@ placed-removed store pool new at inside h m =
     }
 
 -- the pool was compacted
-pub to-move : (store : Stored) (pool new : State) (before after : List (Place × Place)) → IsPlaced store pool → IsSound new → before ≡ [] → IsCompacted pool new before after → AreToMove store new after
+pub to-move : (store : Stored) (pool new : State) (before after : List (Place × Place)) → IsPlaced store pool → IsSound new → before ≡ [] →
+    IsCompacted pool new before after → AreToMove store new after
 to-move store pool new before after h sound none m =
     let all : m.moves ≡ after = sym (m.told ∙ ap (λ (ms : List (Place × Place)). ms ++ m.moves) none) in
     let same : (p q : Place) → Contains after (p, q) → clause_at new q ≡ clause_at pool p = λ p q c. (m.same p q (subst (λ (ms : List (Place × Place)). Contains ms (p, q)) (sym all) c)).0 in
-    let found : (p q : Place) → Contains after (p, q) → (e : Entry) × (clause_at pool p ≡ Some e) = λ p q c. some-of (clause_at pool p) (m.same p q (subst (λ (ms : List (Place × Place)). Contains ms (p, q)) (sym all) c)).1 in
+    let found : (p q : Place) → Contains after (p, q) → (e : Entry) × (clause_at pool p ≡ Some e) =
+    λ p q c. some-of (clause_at pool p) (m.same p q (subst (λ (ms : List (Place × Place)). Contains ms (p, q)) (sym all) c)).1 in
     record {
       size = h.size;
       each = λ k p at.
@@ -138,7 +146,8 @@ to-move store pool new before after h sound none m =
           (t.0, c, some-and (clause_at new t.0) f.value (λ (e : Entry). e.id ≡ k) (same p t.0 c ∙ f.is) f.holds);
       move = λ p q c.
           let f = found p q c in
-          some-and (clause_at new q) f.0 (λ (e : Entry). slice_get store.places e.id ≡ Some (Some p)) (same p q c ∙ f.1) (at-some (clause_at pool p) f.0 (λ (x : Entry). slice_get store.places x.id ≡ Some (Some p)) f.1 (h.known p));
+          some-and (clause_at new q) f.0 (λ (e : Entry). slice_get store.places e.id ≡ Some (Some p)) (same p q c ∙ f.1)
+          (at-some (clause_at pool p) f.0 (λ (x : Entry). slice_get store.places x.id ≡ Some (Some p)) f.1 (h.known p));
       only = λ q. if-some (clause_at new q) _ (λ e is.
           let t = at-some (clause_at new q) e (λ _. (p : Place) × Contains m.moves (p, q)) is (m.only q) in
           (t.0, subst (λ (ms : List (Place × Place)). Contains ms (t.0, q)) all t.1));

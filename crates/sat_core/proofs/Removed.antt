@@ -77,7 +77,8 @@ module _ {X : Type 0} (none : X) (xs : List X) (at : ℕ) (inside : at < length 
       elim (cases_order r.0 t.0) [
         | inl same ↦ absurd (omega (arith, l, r.3 ∙ ap (λ (n : ℕ). moved (length xs - 1) at n) same ∙ sym t.3))
         | inr (inl before) ↦ subst (λ (x : X). R x (get_or ys j d)) a (subst (λ (y : X). R (get_or xs r.0 d) y) b (pairs r.0 t.0 d before (slice_get_within xs t.0 (get_or ys j d) t.2)))
-        | inr (inr after) ↦ turn (get_or ys j d) (get_or ys i d) (subst (λ (x : X). R x (get_or ys i d)) b (subst (λ (y : X). R (get_or xs t.0 d) y) a (pairs t.0 r.0 d after (slice_get_within xs r.0 (get_or ys i d) r.2))))
+        | inr (inr after) ↦ turn (get_or ys j d) (get_or ys i d)
+            (subst (λ (x : X). R x (get_or ys i d)) b (subst (λ (y : X). R (get_or xs t.0 d) y) a (pairs t.0 r.0 d after (slice_get_within xs r.0 (get_or ys i d) r.2))))
       ]
 
   -- what is seen of the items
@@ -87,4 +88,5 @@ module _ {X : Type 0} (none : X) (xs : List X) (at : ℕ) (inside : at < length 
       let last : X = get_or xs n none in
       let size : length (map f xs) ≡ length xs = length-map xs f in
       let seen : f last ≡ get_or (map f xs) (length (map f xs) - 1) y = sym (get_or-map f xs n none y (omega arith)) ∙ ap (λ (k : ℕ). get_or (map f xs) (k - 1) y) (sym size) in
-      sym (take-map f n (set xs at last)) ∙ ap (λ ys. take n ys) (map-set f xs at last ∙ ap (λ (z : _). set (map f xs) at z) seen) ∙ ap (λ (k : ℕ). take (k - 1) (set (map f xs) at (get_or (map f xs) (length (map f xs) - 1) y))) (sym size)
+      sym (take-map f n (set xs at last)) ∙ ap (λ ys. take n ys) (map-set f xs at last ∙ ap (λ (z : _). set (map f xs) at z) seen)
+      ∙ ap (λ (k : ℕ). take (k - 1) (set (map f xs) at (get_or (map f xs) (length (map f xs) - 1) y))) (sym size)

@@ -35,7 +35,9 @@ pub true-more : (xs ys : List Assigned) (level : ℕ) (lits : List Lit) → HasT
 true-more xs ys level lits (k, l, within, at, on) = (k, l, within, at, on-more xs ys level l on)
 
 -- the trail grew, and the pool's clauses are guarded by so many entries
-pub underway-walked : (store : Stored) (pool new : State) (a b : Assignment) (p : Progress) (n : ℕ) → IsUnderway store pool a p → Continues store.clauses a b → IsLinked b.vars store.clauses new → IsPlaced store new → p.done ≤ n → n ≤ length b.entries → AreGuarded p.floor n b.entries new → IsUnderway store new b (record { seen = p.seen; done = n; floor = p.floor })
+pub underway-walked : (store : Stored) (pool new : State) (a b : Assignment) (p : Progress) (n : ℕ) → IsUnderway store pool a p → Continues store.clauses a b →
+    IsLinked b.vars store.clauses new → IsPlaced store new → p.done ≤ n → n ≤ length b.entries → AreGuarded p.floor n b.entries new →
+    IsUnderway store new b (record { seen = p.seen; done = n; floor = p.floor })
 underway-walked store pool new a b p n u continues linked placed more within guarded = record {
   small = omega (arith, u.small, continues.vars);
   few = u.few;
@@ -49,20 +51,24 @@ underway-walked store pool new a b p n u continues linked placed more within gua
   done = within;
   floor = omega (arith, u.floor, continues.level);
   guarded = guarded;
-  late = λ k e above at. subst (λ (m : ℕ). IsLate p.floor m e) (sym continues.level) (elim (slice_get-append a.entries continues.grown.more k e (subst (λ (xs : List Assigned). slice_get xs k ≡ Some e) continues.grown.grown at)) [
-    | inl old ↦ u.late k e (omega (arith, more, above)) old
-    | inr later ↦ λ lower fl le. omega (arith, le, All-contains (λ (x : Assigned). x.level ≡ a.level) continues.grown.more e continues.grown.levels later)
-  ]);
+  late = λ k e above at. subst (λ (m : ℕ). IsLate p.floor m e) (sym continues.level)
+      (elim (slice_get-append a.entries continues.grown.more k e (subst (λ (xs : List Assigned). slice_get xs k ≡ Some e) continues.grown.grown at)) [
+        | inl old ↦ u.late k e (omega (arith, more, above)) old
+        | inr later ↦ λ lower fl le. omega (arith, le, All-contains (λ (x : Assigned). x.level ≡ a.level) continues.grown.more e continues.grown.levels later)
+      ]);
 }
 
 pub underway-stays : (store : Stored) (pool : State) (a b : Assignment) (p : Progress) → IsUnderway store pool a p → Continues store.clauses a b → IsUnderway store pool b p
 underway-stays store pool a b p u continues =
-    underway-walked store pool pool a b p p.done u continues (subst (λ (v : ℕ). IsLinked v store.clauses pool) (sym continues.vars) u.linked) u.placed (omega arith) (omega (arith, u.done, longer store.clauses a b continues))
+    underway-walked store pool pool a b p p.done u continues (subst (λ (v : ℕ). IsLinked v store.clauses pool) (sym continues.vars) u.linked) u.placed (omega
+    arith) (omega (arith, u.done, longer store.clauses a b continues))
     (λ q. if-some (clause_at pool q) _ (λ e is. subst (λ (xs : List Assigned). IsGuarded p.floor (take p.done xs) xs e.lits) (sym continues.grown.grown)
-    (guarded-grown p.floor p.done a.entries continues.grown.more e.lits u.done (at-some (clause_at pool q) e (λ (x : Entry). IsGuarded p.floor (take p.done a.entries) a.entries x.lits) is (u.guarded q)))))
+    (guarded-grown p.floor p.done a.entries continues.grown.more e.lits u.done
+    (at-some (clause_at pool q) e (λ (x : Entry). IsGuarded p.floor (take p.done a.entries) a.entries x.lits) is (u.guarded q)))))
 
 -- one clause more was examined
-pub underway-seen : (store : Stored) (pool : State) (a b : Assignment) (p : Progress) (held : Held) → IsUnderway store pool a p → Continues store.clauses a b → held.0 ≡ p.seen → p.seen < length store.clauses → RestsAt store.clauses b.entries held → IsUnderway store pool b (record { seen = p.seen + 1; done = p.done; floor = p.floor })
+pub underway-seen : (store : Stored) (pool : State) (a b : Assignment) (p : Progress) (held : Held) → IsUnderway store pool a p → Continues store.clauses a b →
+    held.0 ≡ p.seen → p.seen < length store.clauses → RestsAt store.clauses b.entries held → IsUnderway store pool b (record { seen = p.seen + 1; done = p.done; floor = p.floor })
 underway-seen store pool a b p held u continues is within rests =
     let stays = underway-stays store pool a b p u continues in
     record {
@@ -79,7 +85,8 @@ underway-seen store pool a b p held u continues is within rests =
         | inr last ↦
             let same : place ≡ held.0 = omega arith in
             let bottom : up_to b.entries 0 ≡ b.entries = level-over store.clauses b 0 stays.trail_is (omega (arith, stays.fresh within)) in
-            subst (λ (xs : List Assigned). HasTrue xs c.lits) (sym bottom) (narrow-true b.entries c.lits thin (rests-there store.clauses b.entries held c (subst (λ (k : ℕ). slice_get store.clauses k ≡ Some c) same at) rests))
+            subst (λ (xs : List Assigned). HasTrue xs c.lits) (sym bottom)
+            (narrow-true b.entries c.lits thin (rests-there store.clauses b.entries held c (subst (λ (k : ℕ). slice_get store.clauses k ≡ Some c) same at) rests))
       ];
       done = stays.done;
       floor = stays.floor;
@@ -88,7 +95,8 @@ underway-seen store pool a b p held u continues is within rests =
     }
 
 -- a walk may begin for the next entry
-pub walk-begins : (store : Stored) (pool : State) (a : Assignment) (p : Progress) (e : Assigned) → IsUnderway store pool a p → slice_get a.entries p.done ≡ Some e → IsOf a.vars (negated e.lit) → IsWalkedFor p.floor p.done (negated e.lit) store.clauses pool a
+pub walk-begins : (store : Stored) (pool : State) (a : Assignment) (p : Progress) (e : Assigned) → IsUnderway store pool a p →
+    slice_get a.entries p.done ≡ Some e → IsOf a.vars (negated e.lit) → IsWalkedFor p.floor p.done (negated e.lit) store.clauses pool a
 walk-begins store pool a p e u at of = record {
   of = of;
   few = u.few;
@@ -101,7 +109,8 @@ walk-begins store pool a p e u at of = record {
 }
 
 -- where all was seen and done, the clauses are at rest
-pub rest-at_end : (store : Stored) (pool : State) (a : Assignment) (p : Progress) → IsUnderway store pool a p → p.seen ≡ length store.clauses → p.done ≡ length a.entries → IsAtRest store.clauses (is_on a.entries)
+pub rest-at_end : (store : Stored) (pool : State) (a : Assignment) (p : Progress) → IsUnderway store pool a p → p.seen ≡ length store.clauses →
+    p.done ≡ length a.entries → IsAtRest store.clauses (is_on a.entries)
 rest-at_end store pool a p u seen done k d l =
     let n : Numbered = get_or store.clauses k d in
     let at : slice_get store.clauses k ≡ Some n = slice_get-get_or store.clauses k d l in
@@ -112,10 +121,12 @@ rest-at_end store pool a p u seen done k d l =
           let (m, m_at, same) = in-list a.vars store.clauses pool in_pool.place e u.linked f.is in
           let m_is : m ≡ n = same_Some m n (sym m_at ∙ ap (λ (j : ℕ). slice_get store.clauses j) f.holds ∙ at) in
           let clause : IsClause pool.vars e.lits = at-some (clause_at pool in_pool.place) e (λ (x : Entry). IsClause pool.vars x.lits) f.is (u.linked.sound.clauses in_pool.place) in
-          let guarded : IsGuarded p.floor (take p.done a.entries) a.entries e.lits = at-some (clause_at pool in_pool.place) e (λ (x : Entry). IsGuarded p.floor (take p.done a.entries) a.entries x.lits) f.is (u.guarded in_pool.place) in
+          let guarded : IsGuarded p.floor (take p.done a.entries) a.entries e.lits =
+          at-some (clause_at pool in_pool.place) e (λ (x : Entry). IsGuarded p.floor (take p.done a.entries) a.entries x.lits) f.is (u.guarded in_pool.place) in
           let whole : take p.done a.entries ≡ a.entries = take_all p.done a.entries (omega arith) in
           let all : up_to a.entries a.level ≡ a.entries = level-over store.clauses a a.level u.trail_is (omega arith) in
-          same-rests a.entries n.lits e.lits (subst (λ (x : Numbered). AreSame x.lits e.lits) m_is same) (guarded-rests pool.vars p.floor a.level a.entries e.lits clause u.floor all (subst (λ (xs : List Assigned). IsGuarded p.floor xs a.entries e.lits) whole guarded))
+          same-rests a.entries n.lits e.lits (subst (λ (x : Numbered). AreSame x.lits e.lits) m_is same)
+          (guarded-rests pool.vars p.floor a.level a.entries e.lits clause u.floor all (subst (λ (xs : List Assigned). IsGuarded p.floor xs a.entries e.lits) whole guarded))
       | inr (inl thin) ↦ true-rests a.entries 0 n.lits (u.narrow k n (omega arith) at thin)
       | inr (inr both) ↦ both-rests a.entries n.lits both
     ]
@@ -131,5 +142,6 @@ range-negated vars l range = record {
 }
 
 -- the negation of an entry is in range
-pub entry-range : (store : Stored) (pool : State) (a : Assignment) (p : Progress) (i : ℕ) (d : Assigned) → IsUnderway store pool a p → i < length a.entries → IsOf a.vars (negated (get_or a.entries i d).lit)
+pub entry-range : (store : Stored) (pool : State) (a : Assignment) (p : Progress) (i : ℕ) (d : Assigned) → IsUnderway store pool a p → i < length a.entries →
+    IsOf a.vars (negated (get_or a.entries i d).lit)
 entry-range store pool a p i d u l = range-negated a.vars (get_or a.entries i d).lit (each-at (MayFollow store.clauses a.vars) a.entries i d u.trail_is.entries l).range

@@ -1,9 +1,9 @@
 //! The clauses as they were added, for proofs alone: it takes no memory, and its calls do nothing
 //! when a program runs.
-ghost use Rattle.std.specs.Prelude.{◌≡◌, List, [], ◌∷◌, ◌++◌};
-ghost use Rattle.std.specs.Borrow.{ftrue};
 ghost use Rattle.sat_core.specs.Numbers.{coded_clauses};
 ghost use Rattle.sat_core.specs.declared.numbered.Numbered.{Numbered};
+ghost use Rattle.std.specs.Borrow.{ftrue};
+ghost use Rattle.std.specs.Prelude.{◌≡◌, List, [], ◌∷◌, ◌++◌};
 
 use crate::assigned::Held;
 use cnf_types::Lit;

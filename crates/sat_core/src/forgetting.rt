@@ -1,18 +1,18 @@
 //! How a clause is forgotten, and how the gaps that forgotten clauses leave are closed.
-ghost use Rattle.std.specs.Prelude.{◌≡◌, ◌≢◌, ℕ, ◌-◌, ◌^◌, ◌<◌, ◌≤◌, length, All, Some, None};
-ghost use Rattle.std.specs.Prelude.{IsSomeAnd, IsTrue, IsFalse, slice_get, slice_index_or};
-ghost use Rattle.std.specs.List.{Any};
-ghost use Rattle.cnf_types.specs.Literals.{variable};
-ghost use Rattle.sat_core.specs.Trails.{IsOf, IsTrail, entry_of};
-ghost use Rattle.std.specs.Option.{option_and_then};
-ghost use Rattle.cnf_types.specs.declared.literal.Lit.{Lit};
-ghost use Rattle.clause_pool.specs.declared.place.Place.{Place};
 ghost use Rattle.clause_pool.specs.Pools.{IsSound as IsSoundPool, IsFreshId};
 ghost use Rattle.clause_pool.specs.Pools.{clause_at as clause_in};
-ghost use Rattle.sat_core.specs.Progressing.{AreInRange};
-ghost use Rattle.sat_core.specs.Watches.{IsLinked};
-ghost use Rattle.sat_core.specs.Placed.{AreToMove, IsPlaced};
+ghost use Rattle.clause_pool.specs.declared.place.Place.{Place};
+ghost use Rattle.cnf_types.specs.Literals.{variable};
+ghost use Rattle.cnf_types.specs.declared.literal.Lit.{Lit};
 ghost use Rattle.sat_core.specs.Forgotten.{IsFreed, IsMoved, IsRenumbered, moved_entries};
+ghost use Rattle.sat_core.specs.Placed.{AreToMove, IsPlaced};
+ghost use Rattle.sat_core.specs.Progressing.{AreInRange};
+ghost use Rattle.sat_core.specs.Trails.{IsOf, IsTrail, entry_of};
+ghost use Rattle.sat_core.specs.Watches.{IsLinked};
+ghost use Rattle.std.specs.List.{Any};
+ghost use Rattle.std.specs.Option.{option_and_then};
+ghost use Rattle.std.specs.Prelude.{◌≡◌, ◌≢◌, ℕ, ◌-◌, ◌^◌, ◌<◌, ◌≤◌, length, All, Some, None};
+ghost use Rattle.std.specs.Prelude.{IsSomeAnd, IsTrue, IsFalse, slice_get, slice_index_or};
 
 use crate::assigned::{Assigned, Held};
 use crate::engine::Core;
@@ -23,9 +23,9 @@ use clause_pool::{Place, Pool};
 use cnf_types::Lit;
 
 impl Core {
-    ghost use Rattle.std.specs.Prelude.{◌≡◌, ◌<◌, length, IsTrue, IsFalse, Some};
-    ghost use Rattle.std.specs.List.{Any};
     ghost use Rattle.sat_core.specs.Forgotten.{IsNoReason, without_clause};
+    ghost use Rattle.std.specs.List.{Any};
+    ghost use Rattle.std.specs.Prelude.{◌≡◌, ◌<◌, length, IsTrue, IsFalse, Some};
 
     /// Whether a clause implied a literal of the trail.
     pub fn is_reason(&self, held: Held) -> bool

@@ -1,7 +1,7 @@
 //! How a lemma is added above level 0, on the level on which it becomes unit.
-ghost use Rattle.std.specs.Prelude.{◌≡◌, ◌↔◌, All, IsTrue};
-ghost use Rattle.sat_core.specs.Trails.{IsOf};
 ghost use Rattle.sat_core.specs.States.{AreFalse};
+ghost use Rattle.sat_core.specs.Trails.{IsOf};
+ghost use Rattle.std.specs.Prelude.{◌≡◌, ◌↔◌, All, IsTrue};
 
 use crate::adding::enter_watched;
 use crate::assigned::Held;
@@ -12,10 +12,10 @@ use arc_base::Memory;
 use cnf_types::Lit;
 
 impl Core {
+    ghost use Rattle.sat_core.specs.States.{IsAsserting, with_lemma};
+    ghost use Rattle.sat_core.specs.Trails.{IsOf};
     ghost use Rattle.std.specs.Prelude.{◌≡◌, ◌≢◌, ◌↔◌, ◌<◌, ◌-◌, ◌^◌, length, All, IsTrue, OnOk};
     ghost use Rattle.std.specs.Prelude.{OnErr};
-    ghost use Rattle.sat_core.specs.Trails.{IsOf};
-    ghost use Rattle.sat_core.specs.States.{IsAsserting, with_lemma};
 
     /// Whether a clause implies its first literal on the current level, and not before: this
     /// literal is unset, all others are false, and the second one is since this level, which is not

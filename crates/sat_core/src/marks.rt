@@ -1,11 +1,11 @@
 //! Marks on literals, by which a literal and its negation are found in one walk along a clause.
-ghost use Rattle.std.specs.Prelude.{◌≡◌, ◌<◌, ◌≤◌, ◌==◌, Bool, false, length, All, IfOk};
-ghost use Rattle.std.specs.Prelude.{slice_index_or, if◌then◌else◌};
-ghost use Rattle.std.specs.List.{list_any};
-ghost use Rattle.cnf_types.specs.declared.literal.Lit.{Lit};
 ghost use Rattle.cnf_types.specs.Literals.{negated};
+ghost use Rattle.cnf_types.specs.declared.literal.Lit.{Lit};
 ghost use Rattle.sat_core.specs.Trails.{IsOf};
 ghost use Rattle.sat_core.specs.Watches.{IsBoth};
+ghost use Rattle.std.specs.List.{list_any};
+ghost use Rattle.std.specs.Prelude.{◌≡◌, ◌<◌, ◌≤◌, ◌==◌, false, length, All, IfOk, slice_index_or};
+ghost use Rattle.std.specs.Prelude.{if◌then◌else◌};
 
 use arc_base::Memory;
 use arc_base::limits::VARIABLE_LIMIT;

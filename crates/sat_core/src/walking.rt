@@ -1,8 +1,8 @@
 //! The walk along the chain of a literal that became false.
-ghost use Rattle.std.specs.Prelude.{◌+◌, IsNone, IfSome};
+ghost use Rattle.sat_core.specs.Placed.{SameIds};
 ghost use Rattle.sat_core.specs.Progressing.{Continues, FalsifiedAt, IsWalkedFor};
 ghost use Rattle.sat_core.specs.Watches.{AreGuarded, IsLinked};
-ghost use Rattle.sat_core.specs.Placed.{SameIds};
+ghost use Rattle.std.specs.Prelude.{◌+◌, IsNone, IfSome};
 
 use crate::assigned::Held;
 use crate::store::Store;

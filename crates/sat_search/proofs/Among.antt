@@ -56,5 +56,6 @@ pub among_push_new : (lits : List Lit) (l : Lit) → IsTrue (is_among (lits ++ l
 among_push_new lits l = among_push lits l l ∙ or_right (is_among lits l) (same l l) (eq-same l l refl)
 
 -- a variable that no literal of the list has
-pub apart_push : (lits : List Lit) (l : Lit) → AllPairs (λ m n. variable m ≢ variable n) lits → ((m : Lit) → IsTrue (is_among lits m) → variable m ≢ variable l) → AllPairs (λ m n. variable m ≢ variable n) (lits ++ l ∷ [])
+pub apart_push : (lits : List Lit) (l : Lit) → AllPairs (λ m n. variable m ≢ variable n) lits →
+    ((m : Lit) → IsTrue (is_among lits m) → variable m ≢ variable l) → AllPairs (λ m n. variable m ≢ variable n) (lits ++ l ∷ [])
 apart_push lits l apart new = all_pairs_push (λ m n. variable m ≢ variable n) lits l apart (λ k d low. new (get_or lits k d) (among_at lits k d (get_or lits k d) low refl))

@@ -1,5 +1,6 @@
 -- What clauses cost, and which may be dropped.
-use Rattle.std.proofs.Common.{◌≡◌, ◌≢◌, ℕ, zero, suc, ◌+◌, ◌-◌, ◌<◌, ◌≤◌, ◌==◌, ◌||◌, Bool, true, false, cond, nat_le, nat_lt, inl, inr, List, [], ◌∷◌, ◌++◌, length, take, get_or, slice_get, refl, ap, sym, ◌∙◌, add-one, arith, Option, Some, None}
+use Rattle.std.proofs.Common.{◌≡◌, ◌≢◌, ℕ, zero, suc, ◌+◌, ◌-◌, ◌<◌, ◌≤◌, ◌==◌, ◌||◌, Bool, true, false, cond, nat_le, nat_lt, inl}
+use Rattle.std.proofs.Common.{inr, List, [], ◌∷◌, ◌++◌, length, take, get_or, slice_get, refl, ap, sym, ◌∙◌, add-one, arith, Option, Some, None}
 use Rattle.std.specs.List.{position, Any, sum_by}
 use Rattle.std.specs.Option.{is_some, option_map, option_and_then}
 use Rattle.std.proofs.lemmas.Bool.{cases_eq, eq-eqb, ne_eqb, eqb-true, le-leb, lt-leb, lt-ltb, cond-true}
@@ -56,7 +57,8 @@ pub is_one : (trail : List Assigned) (h : Held) → Any (λ e. e.reason ≡ Some
 is_one trail h (k, e, low, at, is) = list_any-from_Any (λ (e : Assigned). is_at h.0 e.reason) trail (k, e, low, at, ap (is_at h.0) is ∙ eq-eqb h.0 h.0 refl)
 
 pub is_none_of : (trail : List Assigned) (h : Held) → IsNoReason trail h → is_reason trail h.0 ≡ false
-is_none_of trail h other = list_any_none (λ (e : Assigned). is_at h.0 e.reason) trail (All-weaker (λ (e : Assigned). e.reason ≢ Some h) (λ e. is_at h.0 e.reason ≡ false) (λ e other. at-none h.0 e.reason h refl other) trail other)
+is_none_of trail h other = list_any_none (λ (e : Assigned). is_at h.0 e.reason) trail
+    (All-weaker (λ (e : Assigned). e.reason ≢ Some h) (λ e. is_at h.0 e.reason ≡ false) (λ e other. at-none h.0 e.reason h refl other) trail other)
 
 -- ---- one clause
 
@@ -96,8 +98,11 @@ module _ (lemmas : Lemmas) (used : List Bool) (s : State) (h : Held) (id : ℕ) 
   pub costs_other : ((place : ℕ) → place < length used → slice_get lemmas.ids.items place ≢ Some id) → cost_of lemmas used s h.0 ≡ None
   costs_other other = priced None (other_stays lemmas.ids.items (length used) s h clause.0 clause.1 (λ place low at. other place low (at ∙ ap (λ (n : ℕ). Some n) clause.2)))
 
-  pub costs_this : (place : ℕ) → Rise lemmas.ids.items → 2 < length lits → IsNoReason s.trail h → place < length used → slice_get lemmas.ids.items place ≡ Some id → cost_of lemmas used s h.0 ≡ Some (cost_at lemmas.levels.items used place)
-  costs_this place rise long free low at = priced (Some place) (may_go lemmas.ids.items (length used) s h clause.0 clause.1 place rise (omega (arith, long, ap (λ (ls : List Lit). length ls) clause.3)) (is_none_of s.trail h free) low (at ∙ ap (λ (n : ℕ). Some n) (sym clause.2)))
+  pub costs_this : (place : ℕ) → Rise lemmas.ids.items → 2 < length lits → IsNoReason s.trail h → place < length used →
+      slice_get lemmas.ids.items place ≡ Some id → cost_of lemmas used s h.0 ≡ Some (cost_at lemmas.levels.items used place)
+  costs_this place rise long free low at = priced (Some place)
+      (may_go lemmas.ids.items (length used) s h clause.0 clause.1 place rise (omega (arith, long, ap (λ (ls : List Lit). length ls) clause.3)) (is_none_of s.trail h free) low
+      (at ∙ ap (λ (n : ℕ). Some n) (sym clause.2)))
 
 -- ---- a clause that is forgotten
 
@@ -144,7 +149,8 @@ pub count_most : (f : ℕ → Bool) (n : ℕ) → count_below f n ≤ n
 count_most f zero = omega arith
 count_most f (suc n) = omega (arith, count_most f n, one_most (f n))
 
-pub before_costs : (lemmas : Lemmas) (used : List Bool) (least : ℕ) (s : State) (h : Held) (n : ℕ) → h.0 < length s.clauses → n ≤ h.0 → costing lemmas used least (without_clause s h) n ≡ costing lemmas used least s n
+pub before_costs : (lemmas : Lemmas) (used : List Bool) (least : ℕ) (s : State) (h : Held) (n : ℕ) → h.0 < length s.clauses → n ≤ h.0 →
+    costing lemmas used least (without_clause s h) n ≡ costing lemmas used least s n
 before_costs lemmas used least s h n inside low =
     count_same (λ p. is_as_much least (cost_of lemmas used (without_clause s h) p)) (λ p. is_as_much least (cost_of lemmas used s p)) n
     (λ k less. ap (λ (o : Option ℕ). is_as_much least (option_map (cost_at lemmas.levels.items used) o)) (before_stays lemmas.ids.items (length used) s h k inside (omega (arith, less, low))))
@@ -164,10 +170,12 @@ all_cost lemmas used s =
 one-cost : (least : ℕ) (o : Option ℕ) (cost : ℕ) → o ≡ Some cost → one_if (is_as_much least o) ≡ counts least cost
 one-cost least o cost is = ap (λ (p : Option ℕ). one_if (is_as_much least p)) is
 
-pub cost_joins : (least cost : ℕ) (xs new : List ℕ) (f : ℕ → Option ℕ) (n : ℕ) → sum_by (counts least) xs ≡ count_below (λ at. is_as_much least (f at)) n → new ≡ xs ++ cost ∷ [] → Some cost ≡ f n → sum_by (counts least) new ≡ count_below (λ at. is_as_much least (f at)) (n + 1)
+pub cost_joins : (least cost : ℕ) (xs new : List ℕ) (f : ℕ → Option ℕ) (n : ℕ) → sum_by (counts least) xs ≡ count_below (λ at. is_as_much least (f at)) n →
+    new ≡ xs ++ cost ∷ [] → Some cost ≡ f n → sum_by (counts least) new ≡ count_below (λ at. is_as_much least (f at)) (n + 1)
 cost_joins least cost xs new f n before grown is =
     omega (arith, ap (sum_by (counts least)) grown, sum_by_push (counts least) xs cost, before, count_next (λ at. is_as_much least (f at)) n, one-cost least (f n) cost (sym is))
 
-pub cost_misses : (least : ℕ) (xs new : List ℕ) (f : ℕ → Option ℕ) (n : ℕ) → sum_by (counts least) xs ≡ count_below (λ at. is_as_much least (f at)) n → new ≡ xs → None ≡ f n → sum_by (counts least) new ≡ count_below (λ at. is_as_much least (f at)) (n + 1)
+pub cost_misses : (least : ℕ) (xs new : List ℕ) (f : ℕ → Option ℕ) (n : ℕ) → sum_by (counts least) xs ≡ count_below (λ at. is_as_much least (f at)) n →
+    new ≡ xs → None ≡ f n → sum_by (counts least) new ≡ count_below (λ at. is_as_much least (f at)) (n + 1)
 cost_misses least xs new f n before grown is =
     omega (arith, ap (sum_by (counts least)) grown, before, count_next (λ at. is_as_much least (f at)) n, ap (λ (p : Option ℕ). one_if (is_as_much least p)) (sym is))

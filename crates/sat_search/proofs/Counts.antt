@@ -26,13 +26,21 @@ module _ {X : Type 0} (p q : X → Bool) where
       omega (arith, count-cons p x xs, count-cons q x xs, ap once (agree 0 x refl), count_same xs (λ k y at. agree (suc k) y at))
 
   -- they differ at one place
-  pub count_one_more : (xs : List X) (i : ℕ) (x : X) → slice_get xs i ≡ Some x → p x ≡ false → q x ≡ true → ((k : ℕ) (y : X) → slice_get xs k ≡ Some y → k ≢ i → p y ≡ q y) → count_by q xs ≡ count_by p xs + 1
+  pub count_one_more : (xs : List X) (i : ℕ) (x : X) → slice_get xs i ≡ Some x → p x ≡ false → q x ≡ true →
+      ((k : ℕ) (y : X) → slice_get xs k ≡ Some y → k ≢ i → p y ≡ q y) → count_by q xs ≡ count_by p xs + 1
   count_one_more [] i x at no_before yes_after agree = absurd (none-some x at)
   count_one_more (y ∷ ys) zero x at no_before yes_after agree =
       let is : y ≡ x = same_Some y x at in
       omega (arith, count-cons p y ys, count-cons q y ys, ap once (ap p is ∙ no_before), ap once (ap q is ∙ yes_after), count_same ys (λ k z there. agree (suc k) z there (λ e. absurd (omega arith))))
   count_one_more (y ∷ ys) (suc i) x at no_before yes_after agree =
-      omega (arith, count-cons p y ys, count-cons q y ys, ap once (agree 0 y refl (λ e. absurd (omega arith))), count_one_more ys i x at no_before yes_after (λ k z there apart. agree (suc k) z there (λ e. apart (omega arith))))
+      omega (
+        arith,
+        count-cons p y ys,
+        count-cons q y ys,
+        ap once (agree 0 y refl (λ e. absurd (omega arith))),
+        count_one_more ys i x at no_before yes_after
+            (λ k z there apart. agree (suc k) z there (λ e. apart (omega arith))),
+      )
 
   once_le : (a b : Bool) → (a ≡ true → b ≡ true) → once a ≤ once b
   once_le true b h = omega (arith, ap once (h refl))
@@ -65,7 +73,8 @@ pub open_one_more : (level : ℕ) (trail : List Assigned) (flags more : List Boo
     open_in level trail more ≡ open_in level trail flags + once (b.level == level)
 open_one_more level trail flags more m j b distinct at is no_before yes_after others =
     let elsewhere : (k : ℕ) (e : Assigned) → slice_get trail k ≡ Some e → k ≢ j → is_open level flags e ≡ is_open level more e =
-    λ k e there apart. ap (λ (c : Bool). (e.level == level) && c) (others (negated e.lit) (λ same_one. apart (distinct k j e b there at (ap variable (same_negated e.lit b.lit (same_one ∙ sym is)))))) in
+    λ k e there apart. ap (λ (c : Bool). (e.level == level) && c)
+    (others (negated e.lit) (λ same_one. apart (distinct k j e b there at (ap variable (same_negated e.lit b.lit (same_one ∙ sym is)))))) in
     elim (cases_Bool (b.level == level)) [
       | inl yes_level ↦
           let none : is_open level flags b ≡ false = ap (λ (c : Bool). c && is_marked flags (negated b.lit)) yes_level ∙ ap (is_marked flags) is ∙ no_before in

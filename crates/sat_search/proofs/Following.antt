@@ -1,5 +1,6 @@
 -- How the log and the clauses of a core grow together, lemma by lemma, and lose clauses.
-use Rattle.std.proofs.Common.{◌≡◌, ◌≢◌, ℕ, ◌+◌, ◌≤◌, Bool, true, false, ◌||◌, IsTrue, IsSome, inl, inr, List, [], ◌∷◌, ◌++◌, length, drop, All, AllPairs, refl, ap, sym, ◌∙◌, subst, arith, Option, Some, None, add-zero, ◌*◌}
+use Rattle.std.proofs.Common.{◌≡◌, ◌≢◌, ℕ, ◌+◌, ◌≤◌, Bool, true, false, ◌||◌, IsTrue, IsSome, inl, inr, List, [], ◌∷◌}
+use Rattle.std.proofs.Common.{◌++◌, length, drop, All, AllPairs, refl, ap, sym, ◌∙◌, subst, arith, Option, Some, None, add-zero, ◌*◌}
 use Rattle.std.specs.List.{list_any}
 use Rattle.std.proofs.lemmas.Bool.{or_from, false≢true}
 use Rattle.std.proofs.lemmas.List.{drop_at, append_assoc, append-nil, length-append, drop_all}
@@ -98,7 +99,8 @@ module _ (s now dived next : State) (old new newer : List Step) (empty : Bool) (
   pub taught_log : HasLearnt s old newer
   taught_log = record {
     grown = taught.log ∙ ap (λ (xs : List Step). xs ++ step) follows.log.grown ∙ append_assoc old (appended old new) step ∙ ap (λ (xs : List Step). old ++ xs) (sym more_is);
-    learnt = subst (λ (xs : List Step). AreLearnt s.vars (clause_in s.clauses) s.last_id (added_by [] old) (dropped_by 0 old) xs) (sym (more_is ∙ ap (λ (n : ℕ). appended old new ++ lemma_step n taught.lits taught.hints) id_is))
+    learnt = subst (λ (xs : List Step). AreLearnt s.vars (clause_in s.clauses) s.last_id (added_by [] old) (dropped_by 0 old) xs)
+        (sym (more_is ∙ ap (λ (n : ℕ). appended old new ++ lemma_step n taught.lits taught.hints) id_is))
         (learnt_add s.vars (clause_in s.clauses) s.last_id (added_by [] old) (dropped_by 0 old) (appended old new) taught.lits taught.hints follows.log.learnt known_from learnt_from);
     few = omega (arith, taught_few);
     in_time = subst (λ (xs : List Step). DropsInTime (dropped_by 0 old) (wait_of old) xs) (sym more_is)
@@ -132,14 +134,16 @@ module _ (s now dived next : State) (old new newer : List Step) (empty : Bool) (
 pub taught_different : (s now : State) (old new : List Step) (empty : Bool) → AllPairs (λ c d. c.id ≢ d.id) s.clauses → Teaches s old now new empty → AllPairs (λ c d. c.id ≢ d.id) now.clauses
 taught_different s now old new empty different taught =
     subst (λ (cs : List Numbered). AllPairs (λ c d. c.id ≢ d.id) cs) (sym taught.clauses)
-    (all_pairs_push (λ c d. c.id ≢ d.id) s.clauses (record { id = s.last_id + 1; lits = taught.lits }) different (All-weaker (λ (c : Numbered). c.id ≤ s.last_id) (λ c. c.id ≢ s.last_id + 1) (λ c low e. omega (arith, low, e)) s.clauses taught.known))
+    (all_pairs_push (λ c d. c.id ≢ d.id) s.clauses (record { id = s.last_id + 1; lits = taught.lits }) different
+    (All-weaker (λ (c : Numbered). c.id ≤ s.last_id) (λ c. c.id ≢ s.last_id + 1) (λ c low e. omega (arith, low, e)) s.clauses taught.known))
 
 long-there : (o : Option (List Lit)) → IsTrue (is_long o) → IsSome o
 long-there None long = absurd (false≢true long)
 long-there (Some lits) long = refl
 
 -- clauses are dropped
-module _ (s now next : State) (old new newer : List Step) (follows : GoesOn s old now new) (few : dropped_by 0 (appended old new) + 1 ≤ additions (appended old new)) (drops : Drops now new next newer) where
+module _ (s now next : State) (old new newer : List Step) (follows : GoesOn s old now new) (few : dropped_by 0 (appended old new) + 1 ≤ additions (appended old new))
+    (drops : Drops now new next newer) where
   abbrev left : ℕ → Option (List Lit)
   left = live_after (clause_in s.clauses) (appended old new)
 
@@ -237,7 +241,8 @@ log_same s old new newer log same = subst (λ (xs : List Step). HasLearnt s old 
 pub log_additions : (s : State) (old new : List Step) → HasLearnt s old new → additions new ≡ additions old + additions (appended old new)
 log_additions s old new log = ap additions log.grown ∙ additions-append old (appended old new)
 
-learnt-length : (vars : ℕ) (live : ℕ → Option (List Lit)) (last : ℕ) (added : List ℕ) (drops : ℕ) (more : List Step) → AreLearnt vars live last added drops more → length more ≡ additions more + dropped_by 0 more
+learnt-length : (vars : ℕ) (live : ℕ → Option (List Lit)) (last : ℕ) (added : List ℕ) (drops : ℕ) (more : List Step) →
+    AreLearnt vars live last added drops more → length more ≡ additions more + dropped_by 0 more
 learnt-length vars live last added drops [] learnt = refl
 learnt-length vars live last added drops (Add id lits hints ∷ more) learnt = omega (arith, learnt-length vars (with_clause live id lits) id (id ∷ added) drops more learnt.3)
 learnt-length vars live last added drops (Drop ids ∷ more) learnt = omega (arith, learnt-length vars (without_clauses live ids) last added (drops + 1) more learnt.2, dropped_from (0 + 1) more)

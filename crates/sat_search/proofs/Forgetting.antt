@@ -1,5 +1,6 @@
 -- Clauses that a core forgets, and the lemmas of a log that may be dropped.
-use Rattle.std.proofs.Common.{◌≡◌, ◌≢◌, ℕ, ◌+◌, ◌-◌, ◌*◌, ◌<◌, ◌≤◌, ◌==◌, Bool, true, false, cond, ◌||◌, IsTrue, IsSomeAnd, inl, inr, List, [], ◌∷◌, ◌++◌, length, take, drop, reverse, slice_get, get_or, All, AllPairs, Contains, refl, ap, sym, ◌∙◌, subst, arith, Option, Some, None, option_map, ℤ, Result, Ok, Err, IfOk}
+use Rattle.std.proofs.Common.{◌≡◌, ◌≢◌, ℕ, ◌+◌, ◌-◌, ◌*◌, ◌<◌, ◌≤◌, ◌==◌, Bool, true, false, cond, ◌||◌, IsTrue, IsSomeAnd, inl, inr, List, [], ◌∷◌, ◌++◌, length}
+use Rattle.std.proofs.Common.{take, drop, reverse, slice_get, get_or, All, AllPairs, Contains, refl, ap, sym, ◌∙◌, subst, arith, Option, Some, None, option_map, ℤ, Result, Ok, Err, IfOk}
 use Rattle.std.specs.List.{list_any}
 use Rattle.std.proofs.lemmas.Bool.{cases_eq, cases_lt, cases_order, eq-eqb, lt-ltb}
 use Rattle.std.proofs.lemmas.Option.{none-some, same_Some, slice_get_within, get_or_from_slice_get}
@@ -107,7 +108,8 @@ lits-of None c many is = absurd (none-some c is)
 lits-of (Some d) c many is = subst (λ (e : Numbered). 2 < length e.lits) (same_Some d c is) many
 
 -- a clause is forgotten
-pub forgets_one : (s : State) (h : Held) (id : ℕ) → AllPairs (λ c d. c.id ≢ d.id) s.clauses → id_at s.clauses h ≡ Some id → IsSomeAnd (clause_at s.clauses h) (λ lits. 2 < length lits) → Forgets s (id ∷ []) (without_clause s h)
+pub forgets_one : (s : State) (h : Held) (id : ℕ) → AllPairs (λ c d. c.id ≢ d.id) s.clauses → id_at s.clauses h ≡ Some id →
+    IsSomeAnd (clause_at s.clauses h) (λ lits. 2 < length lits) → Forgets s (id ∷ []) (without_clause s h)
 forgets_one s h id different is many =
     let c = id_found s.clauses h id is in
     subst (λ (n : ℕ). Forgets s (n ∷ []) (without_clause s h)) c.2 (record {
@@ -141,7 +143,8 @@ forgets_more s mid now ids new before more =
     let same : clause_in mid.clauses ≡ without_clauses (clause_in s.clauses) ids = λ i j. before.clauses j i in
     subst (λ (is : List ℕ). Forgets s is now) (sym more.grown) (record {
       long = All-append (λ id. IsTrue (is_long (clause_in s.clauses id))) ids more.more before.long
-          (All-weaker (λ id. IsTrue (is_long (clause_in mid.clauses id))) (λ id. IsTrue (is_long (clause_in s.clauses id))) (λ id long. without_long (clause_in s.clauses) ids id (subst (λ (l : ℕ → Option (List Lit)). IsTrue (is_long (l id))) same long)) more.more more.forgets.long);
+          (All-weaker (λ id. IsTrue (is_long (clause_in mid.clauses id))) (λ id. IsTrue (is_long (clause_in s.clauses id)))
+          (λ id long. without_long (clause_in s.clauses) ids id (subst (λ (l : ℕ → Option (List Lit)). IsTrue (is_long (l id))) same long)) more.more more.forgets.long);
       clauses = λ j. more.forgets.clauses j ∙ ap (λ (l : ℕ → Option (List Lit)). without_clauses l more.more j) same ∙ without-twice (clause_in s.clauses) ids more.more j;
       vars = more.forgets.vars ∙ before.vars;
       last_id = more.forgets.last_id ∙ before.last_id;
@@ -149,14 +152,16 @@ forgets_more s mid now ids new before more =
       trail = λ l on. more.forgets.trail l (before.trail l on);
     })
 
-pub more_one : (s : State) (ids : List ℕ) (h : Held) (id : ℕ) → AllPairs (λ c d. c.id ≢ d.id) s.clauses → id_at s.clauses h ≡ Some id → IsSomeAnd (clause_at s.clauses h) (λ lits. 2 < length lits) → ForgetsMore s ids (without_clause s h) (ids ++ id ∷ [])
+pub more_one : (s : State) (ids : List ℕ) (h : Held) (id : ℕ) → AllPairs (λ c d. c.id ≢ d.id) s.clauses → id_at s.clauses h ≡ Some id →
+    IsSomeAnd (clause_at s.clauses h) (λ lits. 2 < length lits) → ForgetsMore s ids (without_clause s h) (ids ++ id ∷ [])
 more_one s ids h id different is many = record { more = id ∷ []; grown = refl; forgets = forgets_one s h id different is many }
 
 -- ---- the lemmas of a log
 
 -- a lemma joins
 pub lemmas_add : (steps : List Step) (old new : Lemmas) (id : ℕ) (step : Step) → AreLemmas steps old → new.ids.items ≡ old.ids.items ++ id ∷ [] → new.drops ≡ old.drops
-    → added_by (added_by [] steps) (step ∷ []) ≡ id ∷ added_by [] steps → dropped_by (dropped_by 0 steps) (step ∷ []) ≡ dropped_by 0 steps → new.wait ≡ wait_after (dropped_by 0 steps) (wait_of steps) (step ∷ []) → AreLemmas (steps ++ step ∷ []) new
+    → added_by (added_by [] steps) (step ∷ []) ≡ id ∷ added_by [] steps → dropped_by (dropped_by 0 steps) (step ∷ []) ≡ dropped_by 0 steps →
+    new.wait ≡ wait_after (dropped_by 0 steps) (wait_of steps) (step ∷ []) → AreLemmas (steps ++ step ∷ []) new
 lemmas_add steps old new id step are ids drops adds keeps wait = record {
   ids = ap reverse ids ∙ reverse-append old.ids.items (id ∷ []) ∙ ap (λ (is : List ℕ). id ∷ is) are.ids ∙ sym adds ∙ sym (added_append [] steps (step ∷ []));
   drops = drops ∙ are.drops ∙ sym keeps ∙ sym (dropped_append 0 steps (step ∷ []));
@@ -164,7 +169,8 @@ lemmas_add steps old new id step are ids drops adds keeps wait = record {
 }
 
 -- or some are dropped
-pub lemmas_drop : (steps : List Step) (old new : Lemmas) (ids : List ℕ) → AreLemmas steps old → new.ids.items ≡ old.ids.items → new.drops ≡ old.drops + 1 → new.wait ≡ gap_after (old.drops + 1) → AreLemmas (steps ++ Drop ids ∷ []) new
+pub lemmas_drop : (steps : List Step) (old new : Lemmas) (ids : List ℕ) → AreLemmas steps old → new.ids.items ≡ old.ids.items → new.drops ≡ old.drops + 1 →
+    new.wait ≡ gap_after (old.drops + 1) → AreLemmas (steps ++ Drop ids ∷ []) new
 lemmas_drop steps old new ids are same more wait = record {
   ids = ap reverse same ∙ are.ids ∙ sym (added_append [] steps (Drop ids ∷ []));
   drops = omega (arith, more, are.drops, dropped_append 0 steps (Drop ids ∷ []));
@@ -173,7 +179,8 @@ lemmas_drop steps old new ids are same more wait = record {
 
 -- or nothing changes
 pub lemmas_keep : (steps : List Step) (old new : Lemmas) (step : Step) → AreLemmas steps old → new.ids.items ≡ old.ids.items → new.drops ≡ old.drops
-    → added_by (added_by [] steps) (step ∷ []) ≡ added_by [] steps → dropped_by (dropped_by 0 steps) (step ∷ []) ≡ dropped_by 0 steps → new.wait ≡ wait_after (dropped_by 0 steps) (wait_of steps) (step ∷ []) → AreLemmas (steps ++ step ∷ []) new
+    → added_by (added_by [] steps) (step ∷ []) ≡ added_by [] steps → dropped_by (dropped_by 0 steps) (step ∷ []) ≡ dropped_by 0 steps →
+    new.wait ≡ wait_after (dropped_by 0 steps) (wait_of steps) (step ∷ []) → AreLemmas (steps ++ step ∷ []) new
 lemmas_keep steps old new step are same drops adds keeps wait = record {
   ids = ap reverse same ∙ are.ids ∙ sym adds ∙ sym (added_append [] steps (step ∷ []));
   drops = drops ∙ are.drops ∙ sym keeps ∙ sym (dropped_append 0 steps (step ∷ []));
@@ -206,7 +213,8 @@ first_go steps lemmas n ids are few first = All-weaker (Contains (take n lemmas.
 
 -- ---- a step that drops clauses
 
-pub drops_some : (s now back : State) (old new : List Step) (ids : List ℕ) → Forgets s ids now → back ≡ now → All (MayGo old) ids → new ≡ old ++ Drop ids ∷ [] → wait_of old ≡ 0 → IsHalf (clause_in s.clauses) (added_by [] old) (dropped_by 0 old) ids → Drops s old back new
+pub drops_some : (s now back : State) (old new : List Step) (ids : List ℕ) → Forgets s ids now → back ≡ now → All (MayGo old) ids → new ≡ old ++ Drop ids ∷ [] →
+    wait_of old ≡ 0 → IsHalf (clause_in s.clauses) (added_by [] old) (dropped_by 0 old) ids → Drops s old back new
 drops_some s now back old new ids forgets same may_go grown due half =
     record { ids = ids; log = inl (grown, due, half); may_go = may_go; forgets = subst (λ (b : State). Forgets s ids b) (sym same) forgets }
 
@@ -219,12 +227,15 @@ few_drops steps lemmas are = omega (arith, are.drops, dropped_few 0 steps)
 first-more : (steps : List Step) (i : ℕ) (step : Step) → i < length steps → step ≡ get_or steps i step → take (i + 1) steps ≡ take i steps ++ step ∷ []
 first-more steps i step low is = take_more steps i step low ∙ ap (λ (s : Step). take i steps ++ s ∷ []) (sym is)
 
-pub first_add : (steps : List Step) (i : ℕ) (step : Step) (old new now : Lemmas) (id : ℕ) (lits : List Lit) (hints : List ℤ) → AreLemmas (take i steps) old → i < length steps → step ≡ get_or steps i step → step ≡ Add id lits hints
+pub first_add : (steps : List Step) (i : ℕ) (step : Step) (old new now : Lemmas) (id : ℕ) (lits : List Lit) (hints : List ℤ) → AreLemmas (take i steps) old →
+    i < length steps → step ≡ get_or steps i step → step ≡ Add id lits hints
     → new.ids.items ≡ old.ids.items ++ id ∷ [] → new.drops ≡ old.drops → new.wait ≡ after_one old.wait → now ≡ new → AreLemmas (take (i + 1) steps) now
 first_add steps i step old new now id lits hints are low at is ids drops wait same =
     subst (λ (l : Lemmas). AreLemmas (take (i + 1) steps) l) (sym same)
     (subst (λ (xs : List Step). AreLemmas xs new) (sym (first-more steps i step low at))
-    (lemmas_add (take i steps) old new id step are ids drops (ap (λ (s : Step). added_after (added_by [] (take i steps)) s) is) (ap (λ (s : Step). drops_after (dropped_by 0 (take i steps)) s) is) (wait ∙ ap after_one are.wait ∙ sym (ap (λ (s : Step). wait_after (dropped_by 0 (take i steps)) (wait_of (take i steps)) (s ∷ [])) is))))
+    (lemmas_add (take i steps) old new id step are ids drops (ap (λ (s : Step). added_after (added_by [] (take i steps)) s) is)
+    (ap (λ (s : Step). drops_after (dropped_by 0 (take i steps)) s) is)
+    (wait ∙ ap after_one are.wait ∙ sym (ap (λ (s : Step). wait_after (dropped_by 0 (take i steps)) (wait_of (take i steps)) (s ∷ [])) is))))
 
 pub first_drop : (steps : List Step) (i : ℕ) (step : Step) (old new now : Lemmas) (ids : List ℕ) → AreLemmas (take i steps) old → i < length steps → step ≡ get_or steps i step → step ≡ Drop ids
     → new.ids.items ≡ old.ids.items → new.drops ≡ old.drops + 1 → new.wait ≡ gap_after (old.drops + 1) → now ≡ new → AreLemmas (take (i + 1) steps) now
@@ -232,11 +243,13 @@ first_drop steps i step old new now ids are low at is same more wait now_is =
     subst (λ (l : Lemmas). AreLemmas (take (i + 1) steps) l) (sym now_is)
     (subst (λ (xs : List Step). AreLemmas xs new) (sym (first-more steps i step low at ∙ ap (λ (s : Step). take i steps ++ s ∷ []) is)) (lemmas_drop (take i steps) old new ids are same more wait))
 
-pub first_bound : (steps : List Step) (i : ℕ) (step : Step) (old now : Lemmas) (id price : ℕ) → AreLemmas (take i steps) old → i < length steps → step ≡ get_or steps i step → step ≡ Bound id price → now ≡ old → AreLemmas (take (i + 1) steps) now
+pub first_bound : (steps : List Step) (i : ℕ) (step : Step) (old now : Lemmas) (id price : ℕ) → AreLemmas (take i steps) old → i < length steps →
+    step ≡ get_or steps i step → step ≡ Bound id price → now ≡ old → AreLemmas (take (i + 1) steps) now
 first_bound steps i step old now id price are low at is now_is =
     subst (λ (l : Lemmas). AreLemmas (take (i + 1) steps) l) (sym now_is)
     (subst (λ (xs : List Step). AreLemmas xs old) (sym (first-more steps i step low at))
-    (lemmas_keep (take i steps) old old step are refl refl (ap (λ (s : Step). added_after (added_by [] (take i steps)) s) is) (ap (λ (s : Step). drops_after (dropped_by 0 (take i steps)) s) is) (are.wait ∙ sym (ap (λ (s : Step). wait_after (dropped_by 0 (take i steps)) (wait_of (take i steps)) (s ∷ [])) is))))
+    (lemmas_keep (take i steps) old old step are refl refl (ap (λ (s : Step). added_after (added_by [] (take i steps)) s) is)
+    (ap (λ (s : Step). drops_after (dropped_by 0 (take i steps)) s) is) (are.wait ∙ sym (ap (λ (s : Step). wait_after (dropped_by 0 (take i steps)) (wait_of (take i steps)) (s ∷ [])) is))))
 
 -- ---- what is forgotten is old
 
@@ -257,13 +270,16 @@ taught_above s back now old new level (Ok empty) is taught =
 taught_above s back now old new level (Err memory) is taught = tt
 
 -- and a search is ready again after it
-pub ready_again : (s now : State) (old new : List Step) (was learner : Learner) (r : Result Bool Memory) → IfOk r (Teaches s old now new) → length learner.marks ≡ 2 * s.vars + 2 → ((l : Lit) → is_marked learner.marks l ≡ false)
-    → IsOrder s.vars learner.order → AreLemmas old was.lemmas → learner.lemmas.ids.items ≡ was.lemmas.ids.items ++ (s.last_id + 1) ∷ [] → learner.lemmas.drops ≡ was.lemmas.drops → learner.lemmas.wait ≡ after_one was.lemmas.wait → IfOk r (λ empty. IsReady now.vars new learner)
+pub ready_again : (s now : State) (old new : List Step) (was learner : Learner) (r : Result Bool Memory) → IfOk r (Teaches s old now new) →
+    length learner.marks ≡ 2 * s.vars + 2 → ((l : Lit) → is_marked learner.marks l ≡ false)
+    → IsOrder s.vars learner.order → AreLemmas old was.lemmas → learner.lemmas.ids.items ≡ was.lemmas.ids.items ++ (s.last_id + 1) ∷ [] → learner.lemmas.drops ≡ was.lemmas.drops →
+    learner.lemmas.wait ≡ after_one was.lemmas.wait → IfOk r (λ empty. IsReady now.vars new learner)
 ready_again s now old new was learner (Ok empty) taught size none order are ids drops wait =
     subst (λ (v : ℕ). IsReady v new learner) (sym taught.vars) (record {
       size = size;
       none = none;
       order = order;
-      lemmas = subst (λ (xs : List Step). AreLemmas xs learner.lemmas) (sym taught.log) (lemmas_add old was.lemmas learner.lemmas (s.last_id + 1) (Add (s.last_id + 1) taught.lits taught.hints) are ids drops refl refl (wait ∙ ap after_one are.wait));
+      lemmas = subst (λ (xs : List Step). AreLemmas xs learner.lemmas) (sym taught.log)
+          (lemmas_add old was.lemmas learner.lemmas (s.last_id + 1) (Add (s.last_id + 1) taught.lits taught.hints) are ids drops refl refl (wait ∙ ap after_one are.wait));
     })
 ready_again s now old new was learner (Err memory) taught size none order are ids drops wait = tt

@@ -13,7 +13,8 @@ use Rattle.sat_search.proofs.Held.{at_held}
 use Rattle.sat_search.proofs.Learnt.{all_at}
 use Rattle.sat_search.proofs.Numbering.{with_id}
 
-found_at : (n j id : ℕ) (clauses : List Clause) → id ≡ n + j → option_map (λ c. c.lits) (find (λ c. c.id == id) (map with_id (enumerate_from n clauses))) ≡ option_map (λ c. c.lits) (slice_get clauses j)
+found_at : (n j id : ℕ) (clauses : List Clause) → id ≡ n + j →
+    option_map (λ c. c.lits) (find (λ c. c.id == id) (map with_id (enumerate_from n clauses))) ≡ option_map (λ c. c.lits) (slice_get clauses j)
 found_at n j id [] is = refl
 found_at n zero id (c ∷ cs) is =
     let hit : (n == id) ≡ true = eq-eqb n id (omega (arith, is)) in

@@ -36,7 +36,8 @@ pub record IsHeld (clauses : List Numbered) (id : ℕ) (lits : List Lit) : Type 
 held-later : (c : Numbered) (clauses : List Numbered) (id : ℕ) (lits : List Lit) → IsHeld clauses id lits → IsHeld (c ∷ clauses) id lits
 held-later c clauses id lits h = record { clause = h.clause; place = suc h.place; at = h.at; id_is = h.id_is; lits_are = h.lits_are }
 
-found-here : (c : Numbered) (clauses : List Numbered) (id : ℕ) (lits : List Lit) (b : Bool) → has_id id c ≡ b → (clause_in clauses id ≡ Some lits → IsHeld clauses id lits) → option_map (λ (d : Numbered). d.lits) (cond b (Some c) (find (has_id id) clauses)) ≡ Some lits → IsHeld (c ∷ clauses) id lits
+found-here : (c : Numbered) (clauses : List Numbered) (id : ℕ) (lits : List Lit) (b : Bool) → has_id id c ≡ b →
+    (clause_in clauses id ≡ Some lits → IsHeld clauses id lits) → option_map (λ (d : Numbered). d.lits) (cond b (Some c) (find (has_id id) clauses)) ≡ Some lits → IsHeld (c ∷ clauses) id lits
 found-here c clauses id lits true e rest h = record { clause = c; place = 0; at = refl; id_is = eqb-true c.id id e; lits_are = same_Some c.lits lits h }
 found-here c clauses id lits false e rest h = held-later c clauses id lits (rest h)
 
@@ -67,8 +68,11 @@ held_push clauses id lits apart j =
       | inl is ↦
           let here : (id == j) ≡ true = eq-eqb id j is in
           let none : find (has_id j) clauses ≡ None = absent clauses j (λ k c at e. apart k c at (e ∙ sym is)) in
-          parts ∙ ap (λ (o : Option Numbered). option_map (λ (d : Numbered). d.lits) (option_or o (find (has_id j) one))) none ∙ ap (λ (b : Bool). option_map (λ (d : Numbered). d.lits) (cond b (Some (record { id = id; lits = lits })) None)) here ∙ ap (λ (b : Bool). cond b (Some lits) (clause_in clauses j)) (sym here)
+          parts ∙ ap (λ (o : Option Numbered). option_map (λ (d : Numbered). d.lits) (option_or o (find (has_id j) one))) none
+          ∙ ap (λ (b : Bool). option_map (λ (d : Numbered). d.lits) (cond b (Some (record { id = id; lits = lits })) None)) here
+          ∙ ap (λ (b : Bool). cond b (Some lits) (clause_in clauses j)) (sym here)
       | inr other ↦
           let off : (id == j) ≡ false = ne_eqb id j other in
-          parts ∙ ap (λ (b : Bool). option_map (λ (d : Numbered). d.lits) (option_or (find (has_id j) clauses) (cond b (Some (record { id = id; lits = lits })) None))) off ∙ ap (option_map (λ (d : Numbered). d.lits)) (or-none (find (has_id j) clauses)) ∙ ap (λ (b : Bool). cond b (Some lits) (clause_in clauses j)) (sym off)
+          parts ∙ ap (λ (b : Bool). option_map (λ (d : Numbered). d.lits) (option_or (find (has_id j) clauses) (cond b (Some (record { id = id; lits = lits })) None))) off
+          ∙ ap (option_map (λ (d : Numbered). d.lits)) (or-none (find (has_id j) clauses)) ∙ ap (λ (b : Bool). cond b (Some lits) (clause_in clauses j)) (sym off)
     ]

@@ -9,7 +9,8 @@ use Rattle.proof_check.specs.Propagation.{same, is_among, with_literal, left, le
 use Rattle.sat_search.specs.Passes.{Refutes}
 use Rattle.sat_search.proofs.Literals.{same-eq, eq-same}
 
-left-step : (falses : Lit → Bool) (p m : Lit) (ls : List Lit) (b : Bool) → falses m ≡ b → (m ≡ p) ⊎ IsTrue (falses m) → IsTrue (list_all (same p) (left falses ls)) → IsTrue (list_all (same p) (cond (not b) (m ∷ left falses ls) (left falses ls)))
+left-step : (falses : Lit → Bool) (p m : Lit) (ls : List Lit) (b : Bool) → falses m ≡ b → (m ≡ p) ⊎ IsTrue (falses m) →
+    IsTrue (list_all (same p) (left falses ls)) → IsTrue (list_all (same p) (cond (not b) (m ∷ left falses ls) (left falses ls)))
 left-step falses p m ls true e h rest = rest
 left-step falses p m ls false e (inl is) rest = and_from (same p m) (list_all (same p) (left falses ls)) (eq-same p m (sym is)) rest
 left-step falses p m ls false e (inr false_one) rest = absurd (false≢true (sym e ∙ false_one))
@@ -52,7 +53,8 @@ left_nothing falses (m ∷ ls) h =
     (left_nothing falses ls (λ n among. h n (or_right (same m n) (is_among ls n) among)))
 
 -- the clause of a conflict is refuted by itself
-pub refutes_conflict : (live : ℕ → Option (List Lit)) (set : Lit → Bool) (id : ℕ) (lits : List Lit) → live id ≡ Some lits → ((m : Lit) → IsTrue (is_among lits m) → IsTrue (set m)) → Refutes live set (pos id ∷ [])
+pub refutes_conflict : (live : ℕ → Option (List Lit)) (set : Lit → Bool) (id : ℕ) (lits : List Lit) → live id ≡ Some lits →
+    ((m : Lit) → IsTrue (is_among lits m) → IsTrue (set m)) → Refutes live set (pos id ∷ [])
 refutes_conflict live set id lits is among falses all place =
     let next : Lit → Option StepFault = λ l. chain_fault live (with_literal (negated l) falses) (place + 1) [] in
     ap (λ o. hint_fault o falses place next) is ∙ ap (λ ls. left_fault (left_of ls) place next) (left_nothing falses lits (λ m h. all m (among m h)))

@@ -36,7 +36,8 @@ module _ (s : State) (sound : IsSound s) where
   on_whole level l h = let u = on_up_to s.trail level l h in entry_on s.trail u.place u.entry l u.at u.literal
 
   -- a falsified clause has a literal that was made false on the current level
-  conflict_on_level : (lits : List Lit) (flags : List Bool) → IsFalsified s.trail lits → ((m : Lit) → IsTrue (is_among lits m) → IsTrue (is_marked flags m)) → 1 ≤ s.level → RestsOn (is_on (up_to s.trail (s.level - 1))) lits → 1 ≤ open_in s.level s.trail flags
+  conflict_on_level : (lits : List Lit) (flags : List Bool) → IsFalsified s.trail lits → ((m : Lit) → IsTrue (is_among lits m) → IsTrue (is_marked flags m)) →
+      1 ≤ s.level → RestsOn (is_on (up_to s.trail (s.level - 1))) lits → 1 ≤ open_in s.level s.trail flags
   conflict_on_level lits flags false_all marked up (inl some_true) =
       let l : Lit = some_true.1 in
       let among : IsTrue (is_among lits l) = among_at lits some_true.0 l l some_true.2 some_true.3 in
@@ -55,7 +56,8 @@ module _ (s : State) (sound : IsSound s) where
       let marked_entry : is_marked flags (negated entry.lit) ≡ true = ap (is_marked flags) (ap negated off.literal ∙ negated-negated l) ∙ marked l among in
       count_some (is_open s.level flags) s.trail off.place entry off.at (and_from (entry.level == s.level) (is_marked flags (negated entry.lit)) (eq-eqb entry.level s.level level_is) marked_entry)
 
-  module _ (none flags : List Bool) (unmarked : (m : Lit) → is_marked none m ≡ false) (k : ℕ) (c : Numbered) (at : slice_get s.clauses k ≡ Some c) (falsified : IsFalsified s.trail c.lits) (joins : IsJoined s.trail none flags c.lits) where
+  module _ (none flags : List Bool) (unmarked : (m : Lit) → is_marked none m ≡ false) (k : ℕ) (c : Numbered) (at : slice_get s.clauses k ≡ Some c)
+      (falsified : IsFalsified s.trail c.lits) (joins : IsJoined s.trail none flags c.lits) where
     marks_among : (m : Lit) → IsTrue (is_marked flags m) → IsTrue (is_among c.lits m) × IsTrue (is_on s.trail (negated m))
     marks_among m h = elim (joined_cases s.trail none flags c.lits joins m h) [
       | inl old ↦ absurd (both_ways (is_marked none m) (unmarked m) old)
@@ -84,7 +86,15 @@ module _ (s : State) (sound : IsSound s) where
           chain = makes_same (clause_in s.clauses) (pos c.id ∷ []) (is_among c.lits) (so_far flags []) begins_with (last live);
           counted = counted;
           risen = λ m among. absurd (false≢true among);
-          one = λ up. inl (λ m among. absurd (false≢true among), omega (arith, counted, conflict_on_level c.lits flags falsified among_marks up (all_at (λ d. RestsOn (is_on (up_to s.trail (s.level - 1))) d.lits) s.clauses k c (sound.rest (s.level - 1) (omega arith)) at)));
+          one = λ up. inl (
+            λ m among. absurd (false≢true among),
+            omega (
+              arith,
+              counted,
+              conflict_on_level c.lits flags falsified among_marks up
+                  (all_at (λ d. RestsOn (is_on (up_to s.trail (s.level - 1))) d.lits) s.clauses k c (sound.rest (s.level - 1) (omega arith)) at),
+            ),
+          );
         }
 
   -- at its end, before the first entry
@@ -105,7 +115,8 @@ module _ (s : State) (sound : IsSound s) where
     end_false m among = so_false s sound 0 flags lits hints current pass m (or_right (is_marked flags m) (is_among lits m) among)
 
     none_current : current ≡ 0
-    none_current = pass.counted ∙ count_none (is_open s.level flags) s.trail (λ k e there open_one. absurd (both_ways (is_marked flags (negated e.lit)) (end_unmarked (negated e.lit)) (and_parts (e.level == s.level) (is_marked flags (negated e.lit)) open_one).1))
+    none_current = pass.counted ∙ count_none (is_open s.level flags) s.trail
+        (λ k e there open_one. absurd (both_ways (is_marked flags (negated e.lit)) (end_unmarked (negated e.lit)) (and_parts (e.level == s.level) (is_marked flags (negated e.lit)) open_one).1))
 
     end_point : 1 ≤ s.level → HasPoint s lits
     end_point up = elim (pass.one up) [
@@ -121,13 +132,16 @@ module _ (s : State) (sound : IsSound s) where
       set = is_on (up_to s.trail (s.level - 1));
       others = λ l held apart. point.others l (among_contains lits l held) apart;
       left_unset = record {
-        not_true = false_from_ne_true (is_on (up_to s.trail (s.level - 1)) point.literal) (λ h. trail_consistent s sound point.literal (on_whole (s.level - 1) point.literal h) (end_false point.literal point.among));
+        not_true = false_from_ne_true (is_on (up_to s.trail (s.level - 1)) point.literal)
+            (λ h. trail_consistent s sound point.literal (on_whole (s.level - 1) point.literal h) (end_false point.literal point.among));
         not_false = point.on_level;
       };
-      consistent = λ l on. false_from_ne_true (is_on (up_to s.trail (s.level - 1)) (negated l)) (λ off. trail_consistent s sound l (on_whole (s.level - 1) l on) (on_whole (s.level - 1) (negated l) off));
+      consistent = λ l on. false_from_ne_true (is_on (up_to s.trail (s.level - 1)) (negated l))
+          (λ off. trail_consistent s sound l (on_whole (s.level - 1) l on) (on_whole (s.level - 1) (negated l) off));
       at_rest = λ id lits_of is.
           let held = at_held s.clauses id lits_of is in
-          subst (λ (ls : List Lit). RestsOn (is_on (up_to s.trail (s.level - 1))) ls) held.lits_are (all_at (λ d. RestsOn (is_on (up_to s.trail (s.level - 1))) d.lits) s.clauses held.place held.clause (sound.rest (s.level - 1) (omega arith)) held.at);
+          subst (λ (ls : List Lit). RestsOn (is_on (up_to s.trail (s.level - 1))) ls) held.lits_are
+          (all_at (λ d. RestsOn (is_on (up_to s.trail (s.level - 1))) d.lits) s.clauses held.place held.clause (sound.rest (s.level - 1) (omega arith)) held.at);
     }
 
     -- a lemma with literals is new

@@ -1,5 +1,6 @@
 -- What a conflict teaches: the first and the last step of its pass.
-use Rattle.std.proofs.Common.{◌≡◌, ℕ, ◌+◌, ◌*◌, ℤ, pos, Bool, false, IsFalse, List, [], ◌∷◌, ◌++◌, length, reverse, get_or, All, refl, ap, sym, ◌∙◌, subst, arith, Option, Some, None, IsSomeAnd, IfSome, option_map}
+use Rattle.std.proofs.Common.{◌≡◌, ℕ, ◌+◌, ◌*◌, ℤ, pos, Bool, false, IsFalse, List, [], ◌∷◌, ◌++◌, length}
+use Rattle.std.proofs.Common.{reverse, get_or, All, refl, ap, sym, ◌∙◌, subst, arith, Option, Some, None, IsSomeAnd, IfSome, option_map}
 use Rattle.std.specs.Option.{option_to_list}
 use Rattle.std.proofs.lemmas.Bool.{false≢true, or_left}
 use Rattle.cnf_types.specs.declared.literal.Lit.{Lit}
@@ -25,8 +26,10 @@ some-clause None p q = absurd p
 some-clause (Some ls) p q = (ls, refl, p, q)
 
 -- the pass begins with the clause of the conflict
-pub conflict_pass : (s : State) → IsSound s → (h : Held) (none flags : List Bool) (first current : ℕ) (start hints : List ℤ) (lits : List Lit) → ((m : Lit) → is_marked none m ≡ false) → IsSomeAnd (clause_at s.clauses h) (IsFalsified s.trail) → IfSome (clause_at s.clauses h) (IsJoined s.trail none flags) →
-    length flags ≡ 2 * s.vars + 2 → current ≡ open_in s.level s.trail flags → start ≡ [] → hints ≡ start ++ option_to_list (hint_at s.clauses h) → lits ≡ [] → first ≡ length s.trail → IsPass s first flags lits (reverse hints) current
+pub conflict_pass : (s : State) → IsSound s → (h : Held) (none flags : List Bool) (first current : ℕ) (start hints : List ℤ) (lits : List Lit) →
+    ((m : Lit) → is_marked none m ≡ false) → IsSomeAnd (clause_at s.clauses h) (IsFalsified s.trail) → IfSome (clause_at s.clauses h) (IsJoined s.trail none flags) →
+    length flags ≡ 2 * s.vars + 2 → current ≡ open_in s.level s.trail flags → start ≡ [] → hints ≡ start ++ option_to_list (hint_at s.clauses h) → lits ≡ [] →
+    first ≡ length s.trail → IsPass s first flags lits (reverse hints) current
 conflict_pass s sound h none flags first current start hints lits unmarked conflict joins size counted start_is hints_are lits_are first_is =
     let both = some-clause (clause_at s.clauses h) conflict joins in
     let c = clause_found s.clauses h both.0 both.1 in
@@ -39,7 +42,8 @@ conflict_pass s sound h none flags first current start hints lits unmarked confl
     (subst (λ (ls : List Lit). IsPass s (length s.trail) flags ls (reverse hints) current) (sym lits_are)
     (subst (λ (hs : List ℤ). IsPass s (length s.trail) flags [] hs current) (sym is) begins))
 
-new_where : (s : State) (sound : IsSound s) (flags : List Bool) (lits : List Lit) (hints : List ℤ) (current : ℕ) → IsPass s 0 flags lits hints current → IsFalse (is_empty lits) → IsNew (clause_in s.clauses) lits hints
+new_where : (s : State) (sound : IsSound s) (flags : List Bool) (lits : List Lit) (hints : List ℤ) (current : ℕ) → IsPass s 0 flags lits hints current →
+    IsFalse (is_empty lits) → IsNew (clause_in s.clauses) lits hints
 new_where s sound flags [] hints current pass filled = absurd (false≢true (sym filled))
 new_where s sound flags (l ∷ ls) hints current pass filled = end_new s sound flags (l ∷ ls) hints current pass l (or_left (same l l) (is_among ls l) (eq-same l l refl))
 
@@ -52,7 +56,8 @@ range_where s sound flags lits hints current pass k d low =
     record { least = omega (arith, range.least, var); most = omega (arith, range.most, var) }
 
 -- what it ends with is learnt
-pub pass_learnt : (s : State) → IsSound s → (first : ℕ) (flags : List Bool) (lits : List Lit) (hints turned : List ℤ) (current : ℕ) → IsPass s first flags lits (reverse hints) current → first ≡ 0 → turned ≡ reverse hints → IsLearnt (clause_in s.clauses) s.vars lits turned
+pub pass_learnt : (s : State) → IsSound s → (first : ℕ) (flags : List Bool) (lits : List Lit) (hints turned : List ℤ) (current : ℕ) →
+    IsPass s first flags lits (reverse hints) current → first ≡ 0 → turned ≡ reverse hints → IsLearnt (clause_in s.clauses) s.vars lits turned
 pass_learnt s sound first flags lits hints turned current pass first_is turned_is =
     let at_start : IsPass s 0 flags lits (reverse hints) current = subst (λ (n : ℕ). IsPass s n flags lits (reverse hints) current) first_is pass in
     let ended : IsPass s 0 flags lits turned current = subst (λ (hs : List ℤ). IsPass s 0 flags lits hs current) (sym turned_is) at_start in

@@ -1,5 +1,6 @@
 -- Which clauses are live after steps, and which steps were learnt.
-use Rattle.std.proofs.Common.{◌≡◌, ◌≢◌, ℕ, zero, suc, ◌+◌, ◌*◌, ◌<◌, ◌≤◌, ◌==◌, ℤ, Bool, true, false, cond, IsTrue, IsSome, ◌⊎◌, inl, inr, List, [], ◌∷◌, ◌++◌, length, drop, All, Contains, find, refl, ap, ◌∙◌, subst, arith, Option, Some, None, option_map}
+use Rattle.std.proofs.Common.{◌≡◌, ◌≢◌, ℕ, zero, suc, ◌+◌, ◌*◌, ◌<◌, ◌≤◌, ◌==◌, ℤ, Bool, true, false, cond, IsTrue, IsSome, ◌⊎◌, inl}
+use Rattle.std.proofs.Common.{inr, List, [], ◌∷◌, ◌++◌, length, drop, All, Contains, find, refl, ap, ◌∙◌, subst, arith, Option, Some, None, option_map}
 use Rattle.std.specs.List.{list_any}
 use Rattle.std.proofs.lemmas.Bool.{eq-eqb, ne_eqb, eqb-true, false≢true}
 use Rattle.std.proofs.lemmas.Option.{none-some}
@@ -103,7 +104,8 @@ ids-from clauses least id (Some lits) is some =
 pub ids_from : (clauses : List Numbered) → All (λ c. 1 ≤ c.id) clauses → (id : ℕ) → IsSome (clause_in clauses id) → 1 ≤ id
 ids_from clauses least id some = ids-from clauses least id (clause_in clauses id) refl some
 
-there : (c : Numbered) (clauses : List Numbered) (id : ℕ) (b : Bool) → IsSome (clause_in clauses id) → IsSome (option_map (λ (d : Numbered). d.lits) (cond b (Some c) (find (λ (d : Numbered). d.id == id) clauses)))
+there : (c : Numbered) (clauses : List Numbered) (id : ℕ) (b : Bool) → IsSome (clause_in clauses id) →
+    IsSome (option_map (λ (d : Numbered). d.lits) (cond b (Some c) (find (λ (d : Numbered). d.id == id) clauses)))
 there c clauses id true some = refl
 there c clauses id false some = some
 
@@ -170,7 +172,8 @@ abbrev pub lemma_step : ℕ → List Lit → List ℤ → List Step
 lemma_step id lits hints = Add id lits hints ∷ []
 
 pub learnt_add : (vars : ℕ) (live : Live) (last : ℕ) (added : List ℕ) (drops : ℕ) (more : List Step) (lits : List Lit) (hints : List ℤ) → AreLearnt vars live last added drops more
-    → HasIdsTo (last + additions more) (live_after live more) → IsLearnt (live_after live more) vars lits hints → AreLearnt vars live last added drops (more ++ lemma_step (last + additions more + 1) lits hints)
+    → HasIdsTo (last + additions more) (live_after live more) → IsLearnt (live_after live more) vars lits hints →
+    AreLearnt vars live last added drops (more ++ lemma_step (last + additions more + 1) lits hints)
 learnt_add vars live last added drops [] lits hints learnt known new = (omega arith, (λ id some. omega (arith, known id some)), new, tt)
 learnt_add vars live last added drops (Add id ls hs ∷ more) lits hints learnt known new =
     let rest = learnt_add vars (with_clause live id ls) id (id ∷ added) drops more lits hints learnt.3 (λ j some. omega (arith, known j some, learnt.0)) new in
@@ -190,13 +193,15 @@ learnt_drop vars live last added drops (Drop js ∷ more) ids learnt there old =
 learnt_drop vars live last added drops (Bound id price ∷ more) ids learnt there old = absurd learnt
 
 -- a clause is added, or at most half of those that may go are dropped
-pub halves_add : (live : Live) (added : List ℕ) (drops : ℕ) (xs : List Step) (id : ℕ) (lits : List Lit) (hints : List ℤ) → DropsHalf live added drops xs → DropsHalf live added drops (xs ++ Add id lits hints ∷ [])
+pub halves_add : (live : Live) (added : List ℕ) (drops : ℕ) (xs : List Step) (id : ℕ) (lits : List Lit) (hints : List ℤ) → DropsHalf live added drops xs →
+    DropsHalf live added drops (xs ++ Add id lits hints ∷ [])
 halves_add live added drops [] id lits hints halves = tt
 halves_add live added drops (Add other of by ∷ xs) id lits hints halves = halves_add (with_clause live other of) (other ∷ added) drops xs id lits hints halves
 halves_add live added drops (Drop ids ∷ xs) id lits hints halves = (halves.0, halves_add (without_clauses live ids) added (drops + 1) xs id lits hints halves.1)
 halves_add live added drops (Bound other price ∷ xs) id lits hints halves = halves_add live added drops xs id lits hints halves
 
-pub halves_drop : (live : Live) (added : List ℕ) (drops : ℕ) (xs : List Step) (gone : List ℕ) → DropsHalf live added drops xs → IsHalf (live_after live xs) (added_by added xs) (dropped_by drops xs) gone → DropsHalf live added drops (xs ++ Drop gone ∷ [])
+pub halves_drop : (live : Live) (added : List ℕ) (drops : ℕ) (xs : List Step) (gone : List ℕ) → DropsHalf live added drops xs →
+    IsHalf (live_after live xs) (added_by added xs) (dropped_by drops xs) gone → DropsHalf live added drops (xs ++ Drop gone ∷ [])
 halves_drop live added drops [] gone halves half = (half, tt)
 halves_drop live added drops (Add id lits hints ∷ xs) gone halves half = halves_drop (with_clause live id lits) (id ∷ added) drops xs gone halves half
 halves_drop live added drops (Drop ids ∷ xs) gone halves half = (halves.0, halves_drop (without_clauses live ids) added (drops + 1) xs gone halves.1 half)
@@ -230,7 +235,8 @@ some_is None lits is = absurd (none-some lits is)
 some_is (Some ls) lits is = refl
 
 -- a clause that was not added stays
-pub learnt_others : (vars : ℕ) (live : Live) (last : ℕ) (added : List ℕ) (drops : ℕ) (steps : List Step) (id : ℕ) (lits : List Lit) → AreLearnt vars live last added drops steps → live id ≡ Some lits → (Contains added id → ⊥) → live_after live steps id ≡ Some lits
+pub learnt_others : (vars : ℕ) (live : Live) (last : ℕ) (added : List ℕ) (drops : ℕ) (steps : List Step) (id : ℕ) (lits : List Lit) →
+    AreLearnt vars live last added drops steps → live id ≡ Some lits → (Contains added id → ⊥) → live_after live steps id ≡ Some lits
 learnt_others vars live last added drops [] id lits learnt is other = is
 learnt_others vars live last added drops (Add own ls hs ∷ steps) id lits learnt is other =
     let low : id ≤ last = learnt.1 id (some_is (live id) lits is) in

@@ -58,11 +58,13 @@ two-joined false true false false = refl
 two-joined false false true f = refl
 two-joined false false false f = refl
 
-pub joined_next : (trail : List Assigned) (old new more : List Bool) (lits : List Lit) (i : ℕ) (d l : Lit) → i < length lits → get_or lits i d ≡ l → IsJoined trail old new (take i lits) → IsJoined trail new more (l ∷ []) → IsJoined trail old more (take (i + 1) lits)
+pub joined_next : (trail : List Assigned) (old new more : List Bool) (lits : List Lit) (i : ℕ) (d l : Lit) → i < length lits → get_or lits i d ≡ l →
+    IsJoined trail old new (take i lits) → IsJoined trail new more (l ∷ []) → IsJoined trail old more (take (i + 1) lits)
 joined_next trail old new more lits i d l low here joined next m =
     next m ∙ ap (λ b. b || ((same l m || false) && is_on trail (negated m))) (joined m)
     ∙ two-joined (is_marked old m) (is_among (take i lits) m) (same l m) (is_on trail (negated m))
-    ∙ ap (λ b. is_marked old m || (b && is_on trail (negated m))) (sym (ap (λ (ls : List Lit). is_among ls m) (take_more lits i d low ∙ ap (λ (x : Lit). take i lits ++ x ∷ []) here) ∙ among_push (take i lits) l m))
+    ∙ ap (λ b. is_marked old m || (b && is_on trail (negated m)))
+    (sym (ap (λ (ls : List Lit). is_among ls m) (take_more lits i d low ∙ ap (λ (x : Lit). take i lits ++ x ∷ []) here) ∙ among_push (take i lits) l m))
 
 -- the same literals are joined alike
 pub joined_alike : (trail : List Assigned) (old new : List Bool) (lits of : List Lit) → AreAlike lits of → IsJoined trail old new of → IsJoined trail old new lits

@@ -1,5 +1,6 @@
 -- A false literal that is marked, and the entry that made it false.
-use Rattle.std.proofs.Common.{◌≡◌, ◌≢◌, ℕ, zero, suc, ◌+◌, ◌≤◌, Bool, true, false, ◌||◌, cond, IsTrue, IsSome, IfSome, List, [], ◌∷◌, length, slice_get, refl, ap, sym, ◌∙◌, subst, arith, Option, Some, None, find, unwrap_or, option_map, not}
+use Rattle.std.proofs.Common.{◌≡◌, ◌≢◌, ℕ, zero, suc, ◌+◌, ◌≤◌, Bool, true, false, ◌||◌, cond, IsTrue, IsSome, IfSome, List}
+use Rattle.std.proofs.Common.{[], ◌∷◌, length, slice_get, refl, ap, sym, ◌∙◌, subst, arith, Option, Some, None, find, unwrap_or, option_map, not}
 use Rattle.std.specs.Prelude.{◌==◌, is_some}
 use Rattle.std.proofs.lemmas.Bool.{eq-eqb, eqb-true, or_right, both_ways, false_from_ne_true}
 use Rattle.std.proofs.lemmas.Option.{none-some, same_Some}
@@ -51,7 +52,14 @@ made_false s l sound off =
     let first = found (λ (e : Assigned). variable e.lit == variable l) s.trail set.place set.entry set.at (eq-eqb (variable set.entry.lit) (variable l) var) in
     let place : set.place ≡ first.place = distinct s sound set.place first.place set.entry first.item set.at first.at (var ∙ sym (eqb-true (variable first.item.lit) (variable l) first.passes)) in
     let same_entry : set.entry ≡ first.item = same_Some set.entry first.item (sym set.at ∙ ap (slice_get s.trail) place ∙ first.at) in
-    record { place = first.place; entry = first.item; at = first.at; literal = ap (λ (e : Assigned). negated e.lit) (sym same_entry) ∙ ap negated set.literal ∙ negated-negated l; is_its = first.first }
+    record {
+      place = first.place;
+      entry = first.item;
+      at = first.at;
+      literal =
+          ap (λ (e : Assigned). negated e.lit) (sym same_entry) ∙ ap negated set.literal ∙ negated-negated l;
+      is_its = first.first;
+    }
 
 pub has_entry : (s : State) (l : Lit) → IsSound s → IsTrue (is_on s.trail (negated l)) → IsSome (entry_of s.trail (variable l))
 has_entry s l sound off = ap is_some (made_false s l sound off).is_its
@@ -69,11 +77,13 @@ marked-other old new l marked m apart = sym (marked m ∙ ap (λ b. is_marked ol
 
 -- one more of the current level is marked, or none
 pub met_counted : (s : State) (l : Lit) (old new : List Bool) (level : ℕ) → IsSound s → IsTrue (is_on s.trail (negated l)) → is_marked old l ≡ false →
-    ((m : Lit) → is_marked new m ≡ (is_marked old m || same l m)) → IfSome (entry_of s.trail (variable l)) (λ e. level ≡ e.level) → open_in s.level s.trail new ≡ open_in s.level s.trail old + once (level == s.level)
+    ((m : Lit) → is_marked new m ≡ (is_marked old m || same l m)) → IfSome (entry_of s.trail (variable l)) (λ e. level ≡ e.level) →
+    open_in s.level s.trail new ≡ open_in s.level s.trail old + once (level == s.level)
 met_counted s l old new level sound off unmarked marked level_is =
     let e = made_false s l sound off in
     let its_level : level ≡ e.entry.level = level-of (entry_of s.trail (variable l)) e.entry level e.is_its level_is in
-    open_one_more s.level s.trail old new l e.place e.entry (distinct s sound) e.at e.literal unmarked (marked l ∙ or_right (is_marked old l) (same l l) (eq-same l l refl)) (marked-other old new l marked)
+    open_one_more s.level s.trail old new l e.place e.entry (distinct s sound) e.at e.literal unmarked (marked l ∙ or_right (is_marked old l) (same l l) (eq-same l l refl))
+    (marked-other old new l marked)
     ∙ ap (λ n. open_in s.level s.trail old + once (n == s.level)) (sym its_level)
 
 pub open_few : (level : ℕ) (s : State) (flags : List Bool) → open_in level s.trail flags ≤ length s.trail
@@ -81,7 +91,8 @@ open_few level s flags = count_by-le-length (is_open level flags) s.trail
 
 -- the count of those of the current level, as a literal is marked whose entry has a level
 pub count_met : (s : State) (l : Lit) (old new : List Bool) (var level now current : ℕ) → IsSound s → IsTrue (is_on s.trail (negated l)) → is_marked old l ≡ false →
-    ((m : Lit) → is_marked new m ≡ (is_marked old m || same l m)) → var ≡ variable l → IfSome (entry_of s.trail var) (λ e. level ≡ e.level) → now ≡ s.level → current ≡ open_in s.level s.trail old → current + once (level == now) ≡ open_in s.level s.trail new
+    ((m : Lit) → is_marked new m ≡ (is_marked old m || same l m)) → var ≡ variable l → IfSome (entry_of s.trail var) (λ e. level ≡ e.level) → now ≡ s.level →
+    current ≡ open_in s.level s.trail old → current + once (level == now) ≡ open_in s.level s.trail new
 count_met s l old new var level now current sound off unmarked marked var_is level_is now_is counted =
     let its = subst (λ (v : ℕ). IfSome (entry_of s.trail v) (λ e. level ≡ e.level)) var_is level_is in
     omega (arith, counted, met_counted s l old new level sound off unmarked marked its, ap (λ (n : ℕ). once (level == n)) now_is)

@@ -21,7 +21,8 @@ pub clause_same : (a b : ℕ → Bool) (vars : ℕ) (lits : List Lit) → All (I
 clause_same a b vars [] range agree = refl
 clause_same a b vars (l ∷ ls) range agree =
     let here = All-head (IsOf vars) l ls range in
-    ap (λ (x : Bool). x || clause_value a ls) (value-same a b l (agree (variable l) here.least here.most)) ∙ ap (λ (x : Bool). value b l || x) (clause_same a b vars ls (All-tail (IsOf vars) l ls range) agree)
+    ap (λ (x : Bool). x || clause_value a ls) (value-same a b l (agree (variable l) here.least here.most))
+    ∙ ap (λ (x : Bool). value b l || x) (clause_same a b vars ls (All-tail (IsOf vars) l ls range) agree)
 
 -- a variable that is set has no unset literal
 pub variable-of : (v : ℕ) (b : Bool) → variable (literal v b) ≡ v
@@ -48,5 +49,6 @@ pub values_model : (s : State) (values : List Bool) → RestingTrailsSatisfy →
     length values ≡ s.vars → ((v : ℕ) → 1 ≤ v → v ≤ s.vars → value_at values v ≡ is_on s.trail (literal v true)) → IsModelOf s values
 values_model s values law sound rest set size agree = record {
   size = size;
-  satisfied = λ k d low. clause_same (value_at values) (value_by s.trail) s.vars (get_or s.clauses k d).lits (sound.range k d low) agree ∙ law s sound rest (λ l range unset. none-unset s l (set (variable l) range.least range.most) unset) k d low;
+  satisfied = λ k d low. clause_same (value_at values) (value_by s.trail) s.vars (get_or s.clauses k d).lits (sound.range k d low) agree
+      ∙ law s sound rest (λ l range unset. none-unset s l (set (variable l) range.least range.most) unset) k d low;
 }

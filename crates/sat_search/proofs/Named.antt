@@ -1,5 +1,6 @@
 -- How many clauses a drop step may name: as their ids differ, no more than there are ids of such.
-use Rattle.std.proofs.Common.{◌≡◌, ◌≢◌, ℕ, suc, ◌+◌, ◌-◌, ◌*◌, ◌/◌, ◌<◌, ◌≤◌, ◌==◌, ◌&&◌, ◌||◌, Bool, true, false, cond, nat_lt, IsSomeAnd, inl, inr, List, [], ◌∷◌, ◌++◌, length, take, drop, reverse, get_or, slice_get, count_by, AllPairs, Contains, refl, ap, sym, ◌∙◌, arith, Option, Some, None, option_map, find}
+use Rattle.std.proofs.Common.{◌≡◌, ◌≢◌, ℕ, suc, ◌+◌, ◌-◌, ◌*◌, ◌/◌, ◌<◌, ◌≤◌, ◌==◌, ◌&&◌, ◌||◌, Bool, true, false, cond, nat_lt, IsSomeAnd, inl, inr, List}
+use Rattle.std.proofs.Common.{[], ◌∷◌, ◌++◌, length, take, drop, reverse, get_or, slice_get, count_by, AllPairs, Contains, refl, ap, sym, ◌∙◌, arith, Option, Some, None, option_map, find}
 use Rattle.std.specs.List.{list_any}
 use Rattle.std.proofs.lemmas.Bool.{cases_eq, cases_lt, eq-eqb, eqb-true, ne_eqb, lt-ltb, and_from, and_right, false≢true}
 use Rattle.std.proofs.lemmas.Option.{none-some, same_Some, get_or_from_slice_get, slice_get-get_or, slice_get_within}
@@ -64,7 +65,8 @@ module _ (c : Numbered) (cs : List Numbered) (id : ℕ) (different : AllPairs (�
 
   later-one : c.id ≢ id → count_by (has_it id) cs ≤ once (is_long (clause_in cs id)) → count_by (has_it id) (c ∷ cs) ≤ once (is_long (clause_in (c ∷ cs) id))
   later-one other rest =
-      let found : clause_in (c ∷ cs) id ≡ clause_in cs id = ap (λ (b : Bool). option_map (λ (d : Numbered). d.lits) (cond b (Some c) (find (λ (d : Numbered). d.id == id) cs))) (ne_eqb c.id id other) in
+      let found : clause_in (c ∷ cs) id ≡ clause_in cs id = ap (λ (b : Bool). option_map (λ (d : Numbered). d.lits) (cond b (Some c) (find (λ (d : Numbered). d.id == id) cs)))
+      (ne_eqb c.id id other) in
       let not_it : has_it id c ≡ false = and_right (nat_lt 2 (length c.lits)) (id == c.id) (ne_eqb id c.id (λ e. other (sym e))) in
       omega (arith, count-cons (has_it id) c cs, ap once not_it, rest, ap (λ (o : Option (List Lit)). once (is_long o)) found)
 
@@ -90,7 +92,8 @@ named_few (id ∷ ids) cs different =
 -- ---- the clauses that may be named, one after another
 
 -- a clause may be that is long and has one of the ids
-named-at : (ids : List ℕ) (o : Option Numbered) (c : Numbered) → o ≡ Some c → IsSomeAnd (option_map (λ d. d.id) o) (Contains ids) → IsSomeAnd (option_map (λ d. d.lits) o) (λ lits. 2 < length lits) → may_be_named ids c ≡ true
+named-at : (ids : List ℕ) (o : Option Numbered) (c : Numbered) → o ≡ Some c → IsSomeAnd (option_map (λ d. d.id) o) (Contains ids) →
+    IsSomeAnd (option_map (λ d. d.lits) o) (λ lits. 2 < length lits) → may_be_named ids c ≡ true
 named-at ids None c is among long = absurd (none-some c is)
 named-at ids (Some d) c is among long =
     let holds : may_be_named ids d ≡ true = and_from (nat_lt 2 (length d.lits)) (list_any (λ i. i == d.id) ids) (lt-ltb 2 (length d.lits) long)
@@ -108,7 +111,8 @@ module _ (ids : List ℕ) (cs : List Numbered) (place : ℕ) (low : place < leng
   one-more : count_by (may_be_named ids) (take (place + 1) cs) ≡ count_by (may_be_named ids) (take place cs) + once (may_be_named ids here)
   one-more = ap (count_by (may_be_named ids)) (take_more cs place (record { id = 0; lits = [] }) low) ∙ sum_by_push (λ (c : Numbered). cond (may_be_named ids c) 1 0) (take place cs) here
 
-  pub few_join : (n : ℕ) → n ≤ count_by (may_be_named ids) (take place cs) → IsSomeAnd (id_at cs (record { 0 = place })) (Contains ids) → IsSomeAnd (clause_at cs (record { 0 = place })) (λ lits. 2 < length lits) → n + 1 ≤ count_by (may_be_named ids) (take (place + 1) cs)
+  pub few_join : (n : ℕ) → n ≤ count_by (may_be_named ids) (take place cs) → IsSomeAnd (id_at cs (record { 0 = place })) (Contains ids) →
+      IsSomeAnd (clause_at cs (record { 0 = place })) (λ lits. 2 < length lits) → n + 1 ≤ count_by (may_be_named ids) (take (place + 1) cs)
   few_join n few among long = omega (arith, few, one-more, ap once (named-at ids (slice_get cs place) here there among long))
 
   pub few_miss : (n : ℕ) → n ≤ count_by (may_be_named ids) (take place cs) → n ≤ count_by (may_be_named ids) (take (place + 1) cs)
@@ -123,7 +127,8 @@ turned_count p items n m is = elim (cases_lt 0 n) [
       let size : length (reverse (drop n items)) ≡ m = omega (arith, length-reverse (drop n items), length-drop n items, is, some) in
       let parts : reverse items ≡ reverse (drop n items) ++ reverse (take n items) = ap reverse (sym (take-append-drop n items)) ∙ reverse-append (take n items) (drop n items) in
       let left : drop m (reverse items) ≡ reverse (take n items) = ap (drop m) parts ∙ drop_at (reverse (drop n items)) (reverse (take n items)) m size in
-      let same : count_by p (reverse (take n items)) ≡ count_by p (take n items) = sum_by-IsPermutation (λ (x : ℕ). cond (p x) 1 0) (take n items) (reverse (take n items)) (IsPermutation-reverse (take n items)) in
+      let same : count_by p (reverse (take n items)) ≡ count_by p (take n items) =
+      sum_by-IsPermutation (λ (x : ℕ). cond (p x) 1 0) (take n items) (reverse (take n items)) (IsPermutation-reverse (take n items)) in
       omega (arith, same, ap (count_by p) left)
   | inr none ↦ let zero_is : n ≡ 0 = omega (arith, none) in omega (arith, ap (λ (k : ℕ). count_by p (take k items)) zero_is)
 ]

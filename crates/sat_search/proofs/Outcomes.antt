@@ -44,11 +44,13 @@ module _ (s : State) (old new : List Step) (log : HasLearnt s old new) where
   pub log_lines : (limit : ℕ) → additions new ≤ limit → s.last_id + limit < 2 ^ 63 → All (λ c. 1 ≤ c.id) s.clauses → All HasLine old → All HasLine new
   log_lines limit most few least lines =
       All-same HasLine new (old ++ appended old new) log.grown (All-append HasLine old (appended old new) lines
-      (learnt_lines s.vars (clause_in s.clauses) s.last_id (added_by [] old) (dropped_by 0 old) more log.learnt (ids_from s.clauses least) (added_lines [] old (All-nil IsId) lines) (omega (arith, log_additions s old new log, most, few))))
+      (learnt_lines s.vars (clause_in s.clauses) s.last_id (added_by [] old) (dropped_by 0 old) more log.learnt (ids_from s.clauses least) (added_lines [] old (All-nil IsId) lines)
+      (omega (arith, log_additions s old new log, most, few))))
 
   pub log_refuting : IsTrue (ends_empty (appended old new)) → IsRefuting new
   log_refuting empty =
-      ap (list_any adds_empty) log.grown ∙ list_any-append adds_empty old (appended old new) ∙ or_right (list_any adds_empty old) (list_any adds_empty (appended old new)) (ends_any (appended old new) empty)
+      ap (list_any adds_empty) log.grown ∙ list_any-append adds_empty old (appended old new) ∙ or_right (list_any adds_empty old) (list_any adds_empty
+      (appended old new)) (ends_any (appended old new) empty)
 
 module _ (s : State) (old : List Step) (now : State) (new : List Step) (follows : GoesOn s old now new) where
   pub follows_knows : (k : Knowledge) → Knows k s → Knows (after_all k (appended old new)) now
@@ -60,10 +62,12 @@ module _ (s : State) (old : List Step) (now : State) (new : List Step) (follows 
   follows_clean f least tops knows clean =
       subst (λ (steps : List Step). IsCleanAfter (start f least tops) [] 0 steps) (sym follows.log.grown)
       (clean_append old (appended old new) (start f least tops) [] 0 clean
-      (learnt_clean s.vars (clause_in s.clauses) s.last_id (added_by [] old) (dropped_by 0 old) (appended old new) (after_all (start f least tops) old) follows.log.learnt (knows_all (after_all (start f least tops) old) s knows) follows.filled))
+      (learnt_clean s.vars (clause_in s.clauses) s.last_id (added_by [] old) (dropped_by 0 old) (appended old new) (after_all (start f least tops) old) follows.log.learnt
+      (knows_all (after_all (start f least tops) old) s knows) follows.filled))
 
   pub follows_others : KeepsOthers (added_by [] old) s.clauses now.clauses
-  follows_others id lits is other = follows.clauses id ∙ learnt_others s.vars (clause_in s.clauses) s.last_id (added_by [] old) (dropped_by 0 old) (appended old new) id lits follows.log.learnt is other
+  follows_others id lits is other = follows.clauses id ∙ learnt_others s.vars (clause_in s.clauses) s.last_id (added_by [] old) (dropped_by 0 old)
+      (appended old new) id lits follows.log.learnt is other
 
   pub follows_not_empty : IsTrue (ends_empty (appended old new)) → ⊥
   follows_not_empty empty = none_ends (appended old new) follows.filled empty
@@ -81,7 +85,8 @@ ends-back s old limit now new (Ok Refuted) ends = ends
 ends-back s old limit now new (Ok Budget) ends = (follows_back s old now new ends.0, ends.1)
 ends-back s old limit now new (Err memory) ends = tt
 
-pub searched_back : (s : State) (old : List Step) (limit : ℕ) (now back : State) (new : List Step) (r : Result Found Memory) → Searched s old limit now new r → back ≡ at_level now 0 → Searched s old limit back new r
+pub searched_back : (s : State) (old : List Step) (limit : ℕ) (now back : State) (new : List Step) (r : Result Found Memory) → Searched s old limit now new r →
+    back ≡ at_level now 0 → Searched s old limit back new r
 searched_back s old limit now back new r ran is =
     subst (λ (b : State). Searched s old limit b new r) (sym is) (record { log = ran.log; most = ran.most; ends = ends-back s old limit now new r ran.ends })
 
@@ -103,19 +108,22 @@ refuted-budget : Refuted ≡ Budget → ⊥
 refuted-budget e = cc
 
 -- answer by answer
-pub refuted_exactly : (s : State) (old : List Step) (limit : ℕ) (now : State) (new : List Step) (r : Result Found Memory) → Searched s old limit now new r → IfOk r (λ found. (found ≡ Refuted) ↔ IsTrue (ends_empty (appended old new)))
+pub refuted_exactly : (s : State) (old : List Step) (limit : ℕ) (now : State) (new : List Step) (r : Result Found Memory) → Searched s old limit now new r →
+    IfOk r (λ found. (found ≡ Refuted) ↔ IsTrue (ends_empty (appended old new)))
 refuted_exactly s old limit now new (Ok (Model values)) ran = (λ e. absurd (model-not values e), λ empty. absurd (follows_not_empty s old now new ran.ends.0 empty))
 refuted_exactly s old limit now new (Ok Refuted) ran = (λ e. ran.ends, λ empty. refl)
 refuted_exactly s old limit now new (Ok Budget) ran = (λ e. absurd (budget-not e), λ empty. absurd (follows_not_empty s old now new ran.ends.0 empty))
 refuted_exactly s old limit now new (Err memory) ran = tt
 
-pub refuting_then : (s : State) (old : List Step) (limit : ℕ) (now : State) (new : List Step) (r : Result Found Memory) → Searched s old limit now new r → IfOk r (λ found. found ≡ Refuted → IsRefuting new)
+pub refuting_then : (s : State) (old : List Step) (limit : ℕ) (now : State) (new : List Step) (r : Result Found Memory) → Searched s old limit now new r →
+    IfOk r (λ found. found ≡ Refuted → IsRefuting new)
 refuting_then s old limit now new (Ok (Model values)) ran = λ e. absurd (model-not values e)
 refuting_then s old limit now new (Ok Refuted) ran = λ e. log_refuting s old new ran.log ran.ends
 refuting_then s old limit now new (Ok Budget) ran = λ e. absurd (budget-not e)
 refuting_then s old limit now new (Err memory) ran = tt
 
-pub spent_then : (s : State) (old : List Step) (limit : ℕ) (now : State) (new : List Step) (r : Result Found Memory) → Searched s old limit now new r → (f : Formula) (least : Option ℕ) (tops : List Lit) → Knows (after_all (start f least tops) old) s → IsClean f least tops old →
+pub spent_then : (s : State) (old : List Step) (limit : ℕ) (now : State) (new : List Step) (r : Result Found Memory) → Searched s old limit now new r →
+    (f : Formula) (least : Option ℕ) (tops : List Lit) → Knows (after_all (start f least tops) old) s → IsClean f least tops old →
     IfOk r (λ found. found ≡ Budget → IsSpent f least tops limit new)
 spent_then s old limit now new (Ok (Model values)) ran f least tops knows clean = λ e. absurd (model-budget values e)
 spent_then s old limit now new (Ok Refuted) ran f least tops knows clean = λ e. absurd (refuted-budget e)
@@ -123,13 +131,15 @@ spent_then s old limit now new (Ok Budget) ran f least tops knows clean = λ e. 
 spent_then s old limit now new (Err memory) ran f least tops knows clean = tt
 
 -- what is so of each state that goes on is so after a model
-pub model_then : (P : State → List Step → Type 0) (s : State) (old : List Step) (limit : ℕ) (now : State) (new : List Step) (r : Result Found Memory) → (GoesOn s old now new → P now new) → Searched s old limit now new r → IfOk r (λ found. IfModel found (λ values. P now new))
+pub model_then : (P : State → List Step → Type 0) (s : State) (old : List Step) (limit : ℕ) (now : State) (new : List Step) (r : Result Found Memory) →
+    (GoesOn s old now new → P now new) → Searched s old limit now new r → IfOk r (λ found. IfModel found (λ values. P now new))
 model_then P s old limit now new (Ok (Model values)) then ran = then ran.ends.0
 model_then P s old limit now new (Ok Refuted) then ran = tt
 model_then P s old limit now new (Ok Budget) then ran = tt
 model_then P s old limit now new (Err memory) then ran = tt
 
-pub is_model_then : (s : State) (old : List Step) (limit : ℕ) (now : State) (new : List Step) (r : Result Found Memory) → Searched s old limit now new r → IfOk r (λ found. IfModel found (IsModelOf now))
+pub is_model_then : (s : State) (old : List Step) (limit : ℕ) (now : State) (new : List Step) (r : Result Found Memory) → Searched s old limit now new r →
+    IfOk r (λ found. IfModel found (IsModelOf now))
 is_model_then s old limit now new (Ok (Model values)) ran = ran.ends.1
 is_model_then s old limit now new (Ok Refuted) ran = tt
 is_model_then s old limit now new (Ok Budget) ran = tt

@@ -37,7 +37,8 @@ module _ (s : State) (sound : IsSound s) where
   distinct = distinct_entries s.clauses s.vars s.trail s.level sound.trail
 
   -- what is in the clause so far is false
-  pub so_false : (first : ℕ) (flags : List Bool) (lits : List Lit) (hints : List ℤ) (current : ℕ) → IsPass s first flags lits hints current → (m : Lit) → IsTrue (so_far flags lits m) → IsTrue (is_on s.trail (negated m))
+  pub so_false : (first : ℕ) (flags : List Bool) (lits : List Lit) (hints : List ℤ) (current : ℕ) → IsPass s first flags lits hints current → (m : Lit) →
+      IsTrue (so_far flags lits m) → IsTrue (is_on s.trail (negated m))
   so_false first flags lits hints current pass m h = elim (or_cases (is_marked flags m) (is_among lits m) h) [
     | inl marked ↦ within_on s.trail 0 first (negated m) (pass.pending m marked)
     | inr among ↦ within_on s.trail first (length s.trail) (negated m) (pass.settled m among)
@@ -48,7 +49,8 @@ module _ (s : State) (sound : IsSound s) where
   trail_consistent l on off = not_both s.trail 0 (length s.trail) 0 (length s.trail) l distinct (on-set s.trail l on) (on-set s.trail (negated l) off)
 
   -- an entry whose negation is not in the clause so far
-  pub pass_skips : (first : ℕ) (flags : List Bool) (lits : List Lit) (hints : List ℤ) (current : ℕ) (a : Assigned) → slice_get s.trail first ≡ Some a → is_marked flags (negated a.lit) ≡ false → IsPass s (first + 1) flags lits hints current → IsPass s first flags lits hints current
+  pub pass_skips : (first : ℕ) (flags : List Bool) (lits : List Lit) (hints : List ℤ) (current : ℕ) (a : Assigned) → slice_get s.trail first ≡ Some a →
+      is_marked flags (negated a.lit) ≡ false → IsPass s (first + 1) flags lits hints current → IsPass s first flags lits hints current
   pass_skips first flags lits hints current a at off pass = record {
     size = pass.size;
     pending = λ m marked. elim (set_below s.trail first a (negated m) at (pass.pending m marked)) [
@@ -66,7 +68,8 @@ module _ (s : State) (sound : IsSound s) where
   }
 
   -- where an entry of the current level has its negation marked, so many are
-  pub open_some : (flags : List Bool) (current first : ℕ) (a : Assigned) → slice_get s.trail first ≡ Some a → is_marked flags (negated a.lit) ≡ true → a.level ≡ s.level → current ≡ open_in s.level s.trail flags → 1 ≤ current
+  pub open_some : (flags : List Bool) (current first : ℕ) (a : Assigned) → slice_get s.trail first ≡ Some a → is_marked flags (negated a.lit) ≡ true →
+      a.level ≡ s.level → current ≡ open_in s.level s.trail flags → 1 ≤ current
   open_some flags current first a at was level_is counted =
       omega (arith, counted, count_some (is_open s.level flags) s.trail first a at (and_from (a.level == s.level) (is_marked flags (negated a.lit)) (eq-eqb a.level s.level level_is) was))
 
@@ -85,7 +88,8 @@ module _ (s : State) (sound : IsSound s) where
       absurd (omega (arith, below.low, ap (λ (x : Assigned). x.level) same_entry)))
 
   -- a literal that stays
-  module _ (first : ℕ) (flags : List Bool) (lits : List Lit) (hints : List ℤ) (current : ℕ) (a : Assigned) (at : slice_get s.trail first ≡ Some a) (was : is_marked flags (negated a.lit) ≡ true) (pass : IsPass s (first + 1) flags lits hints current) (more : List Bool) (cleared : IsCleared flags more (negated a.lit)) where
+  module _ (first : ℕ) (flags : List Bool) (lits : List Lit) (hints : List ℤ) (current : ℕ) (a : Assigned) (at : slice_get s.trail first ≡ Some a)
+      (was : is_marked flags (negated a.lit) ≡ true) (pass : IsPass s (first + 1) flags lits hints current) (more : List Bool) (cleared : IsCleared flags more (negated a.lit)) where
     entry_within : IsSetWithin s.trail 0 (first + 1) a.lit
     entry_within = set-entry s.trail 0 (first + 1) first a a.lit (omega arith) (omega arith) at refl
 
@@ -102,14 +106,16 @@ module _ (s : State) (sound : IsSound s) where
 
     pub counted_less : (rest : ℕ) → current ≡ rest + once (a.level == s.level) → rest ≡ open_in s.level s.trail more
     counted_less rest sum =
-        let one = open_one_more s.level s.trail more flags (negated a.lit) first a distinct at refl (cleared_off flags more (negated a.lit) cleared) was (λ n apart. cleared_other flags more (negated a.lit) cleared n apart) in
+        let one = open_one_more s.level s.trail more flags (negated a.lit) first a distinct at refl (cleared_off flags more (negated a.lit) cleared) was
+        (λ n apart. cleared_other flags more (negated a.lit) cleared n apart) in
         omega (arith, one, sum, pass.counted)
 
     so_far_kept : (m : Lit) → so_far flags lits m ≡ so_far more (lits ++ negated a.lit ∷ []) m
     so_far_kept m = same_test (so_far flags lits m) (so_far more (lits ++ negated a.lit ∷ []) m)
         (λ h. elim (or_cases (is_marked flags m) (is_among lits m) h) [
           | inl marked ↦ elim (one_or_apart m (negated a.lit)) [
-            | inl is ↦ or_right (is_marked more m) (is_among (lits ++ negated a.lit ∷ []) m) (subst (λ (l : Lit). IsTrue (is_among (lits ++ negated a.lit ∷ []) l)) (sym is) (among_push_new lits (negated a.lit)))
+            | inl is ↦ or_right (is_marked more m) (is_among (lits ++ negated a.lit ∷ []) m)
+                (subst (λ (l : Lit). IsTrue (is_among (lits ++ negated a.lit ∷ []) l)) (sym is) (among_push_new lits (negated a.lit)))
             | inr apart ↦ or_left (is_marked more m) (is_among (lits ++ negated a.lit ∷ []) m) (cleared_other flags more (negated a.lit) cleared m apart ∙ marked)
           ]
           | inr among ↦ or_right (is_marked more m) (is_among (lits ++ negated a.lit ∷ []) m) (among_push_old lits (negated a.lit) m among)
@@ -123,7 +129,8 @@ module _ (s : State) (sound : IsSound s) where
         ])
 
     -- a literal of the current level stays
-    point_here : (rest : ℕ) → current ≡ rest + once (a.level == s.level) → a.level ≡ s.level → current ≤ 1 → 1 ≤ s.level → HasOneOfLevel s lits current → HasOneOfLevel s (lits ++ negated a.lit ∷ []) rest
+    point_here : (rest : ℕ) → current ≡ rest + once (a.level == s.level) → a.level ≡ s.level → current ≤ 1 → 1 ≤ s.level → HasOneOfLevel s lits current →
+        HasOneOfLevel s (lits ++ negated a.lit ∷ []) rest
     point_here rest sum level_is few up (inl before) = inr (
       record {
         literal = negated a.lit;
@@ -157,7 +164,8 @@ module _ (s : State) (sound : IsSound s) where
       omega (arith, after.1, sum),
     )
 
-    pub pass_keeps : (rest : ℕ) → length more ≡ length flags → current ≡ rest + once (a.level == s.level) → 1 ≤ s.level → (a.level ≡ s.level → current ≤ 1) → IsPass s first more (lits ++ negated a.lit ∷ []) hints rest
+    pub pass_keeps : (rest : ℕ) → length more ≡ length flags → current ≡ rest + once (a.level == s.level) → 1 ≤ s.level → (a.level ≡ s.level → current ≤ 1) →
+        IsPass s first more (lits ++ negated a.lit ∷ []) hints rest
     pass_keeps rest size sum up few = record {
       size = size ∙ pass.size;
       pending = pending_below;

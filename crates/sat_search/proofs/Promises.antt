@@ -1,5 +1,6 @@
 -- What a search promises of its log: its steps are accepted, name live clauses, and are clean.
-use Rattle.std.proofs.Common.{◌≡◌, ℕ, ◌+◌, ◌<◌, ◌≤◌, ◌^◌, ℤ, inl, inr, Bool, true, false, cond, IsTrue, IsFalse, IsSome, List, [], ◌∷◌, ◌++◌, get_or, All, refl, ap, sym, ◌∙◌, subst, arith, Option, Some, None, option_map, is_none}
+use Rattle.std.proofs.Common.{◌≡◌, ℕ, ◌+◌, ◌<◌, ◌≤◌, ◌^◌, ℤ, inl, inr, Bool, true, false, cond, IsTrue, IsFalse, IsSome}
+use Rattle.std.proofs.Common.{List, [], ◌∷◌, ◌++◌, get_or, All, refl, ap, sym, ◌∙◌, subst, arith, Option, Some, None, option_map, is_none}
 use Rattle.std.specs.Prelude.{nat_lt, position}
 use Rattle.std.specs.List.{list_any}
 use Rattle.std.proofs.lemmas.Bool.{lt-ltb, false≢true, or_left, or_right, or_parts, both_ways}
@@ -39,7 +40,8 @@ module _ (live : Live) (last : ℕ) (k : Knowledge) (knows : KnowsAll k live las
     rising-accepted false other fault e none = absurd (false≢true e)
 
     pub step_accepted : step_fault k (Add id lits hints) ≡ None
-    step_accepted = rising-accepted (nat_lt k.last id) (chain_fault k.clause (is_among lits) 0 hints) _ (lt-ltb k.last id (omega (arith, knows.most))) (ap (λ (l : ℕ → Option (List Lit)). chain_fault l (is_among lits) 0 hints) same_clauses ∙ learnt.shown)
+    step_accepted = rising-accepted (nat_lt k.last id) (chain_fault k.clause (is_among lits) 0 hints) _ (lt-ltb k.last id (omega (arith, knows.most)))
+        (ap (λ (l : ℕ → Option (List Lit)). chain_fault l (is_among lits) 0 hints) same_clauses ∙ learnt.shown)
 
     pub step_live : All (IsLive k.clause) hints
     step_live = subst (λ (l : ℕ → Option (List Lit)). All (IsLive l) hints) (sym same_clauses) learnt.live
@@ -69,7 +71,8 @@ module _ (live : Live) (last : ℕ) (k : Knowledge) (knows : KnowsAll k live las
     drop_knows = record { same = λ j. ap (λ (l : ℕ → Option (List Lit)). without_clauses l ids j) same_clauses; most = knows.most }
 
 -- the steps are accepted
-pub learnt_accepted : (vars : ℕ) (live : Live) (last : ℕ) (added : List ℕ) (drops : ℕ) (steps : List Step) (k : Knowledge) → AreLearnt vars live last added drops steps → KnowsAll k live last → IsAccepted k steps
+pub learnt_accepted : (vars : ℕ) (live : Live) (last : ℕ) (added : List ℕ) (drops : ℕ) (steps : List Step) (k : Knowledge) →
+    AreLearnt vars live last added drops steps → KnowsAll k live last → IsAccepted k steps
 learnt_accepted vars live last added drops [] k learnt knows = tt
 learnt_accepted vars live last added drops (Add id lits hints ∷ steps) k learnt knows = (
   step_accepted live last k knows vars id lits hints learnt.0 learnt.2,
@@ -82,7 +85,8 @@ learnt_accepted vars live last added drops (Drop ids ∷ steps) k learnt knows =
 learnt_accepted vars live last added drops (Bound id price ∷ steps) k learnt knows = absurd learnt
 
 -- their hints name live clauses
-pub learnt_live : (vars : ℕ) (live : Live) (last : ℕ) (added : List ℕ) (drops : ℕ) (steps : List Step) (k : Knowledge) → AreLearnt vars live last added drops steps → KnowsAll k live last → HasLiveHints k steps
+pub learnt_live : (vars : ℕ) (live : Live) (last : ℕ) (added : List ℕ) (drops : ℕ) (steps : List Step) (k : Knowledge) →
+    AreLearnt vars live last added drops steps → KnowsAll k live last → HasLiveHints k steps
 learnt_live vars live last added drops [] k learnt knows = tt
 learnt_live vars live last added drops (Add id lits hints ∷ steps) k learnt knows = (
   step_live live last k knows vars id lits hints learnt.0 learnt.2,
@@ -93,7 +97,8 @@ learnt_live vars live last added drops (Drop ids ∷ steps) k learnt knows =
 learnt_live vars live last added drops (Bound id price ∷ steps) k learnt knows = absurd learnt
 
 -- what is known after them
-pub learnt_knows : (vars : ℕ) (live : Live) (last : ℕ) (added : List ℕ) (drops : ℕ) (steps : List Step) (k : Knowledge) → AreLearnt vars live last added drops steps → KnowsAll k live last → KnowsAll (after_all k steps) (live_after live steps) (last + additions steps)
+pub learnt_knows : (vars : ℕ) (live : Live) (last : ℕ) (added : List ℕ) (drops : ℕ) (steps : List Step) (k : Knowledge) →
+    AreLearnt vars live last added drops steps → KnowsAll k live last → KnowsAll (after_all k steps) (live_after live steps) (last + additions steps)
 learnt_knows vars live last added drops [] k learnt knows = record { same = knows.same; most = omega (arith, knows.most) }
 learnt_knows vars live last added drops (Add id lits hints ∷ steps) k learnt knows =
     let rest = learnt_knows vars (with_clause live id lits) id (id ∷ added) drops steps (after k (Add id lits hints)) learnt.3 (step_knows live last k knows vars id lits hints learnt.0 learnt.2) in
@@ -103,7 +108,8 @@ learnt_knows vars live last added drops (Drop ids ∷ steps) k learnt knows =
 learnt_knows vars live last added drops (Bound id price ∷ steps) k learnt knows = absurd learnt
 
 -- where none of them adds an empty clause, they are clean after what was added and dropped before
-pub learnt_clean : (vars : ℕ) (live : Live) (last : ℕ) (added : List ℕ) (drops : ℕ) (steps : List Step) (k : Knowledge) → AreLearnt vars live last added drops steps → KnowsAll k live last → IsFalse (list_any adds_empty steps) → IsCleanAfter k added drops steps
+pub learnt_clean : (vars : ℕ) (live : Live) (last : ℕ) (added : List ℕ) (drops : ℕ) (steps : List Step) (k : Knowledge) →
+    AreLearnt vars live last added drops steps → KnowsAll k live last → IsFalse (list_any adds_empty steps) → IsCleanAfter k added drops steps
 learnt_clean vars live last added drops [] k learnt knows filled = tt
 learnt_clean vars live last added drops (Add id lits hints ∷ steps) k learnt knows filled =
     let parts = or_parts (is_empty lits) (list_any adds_empty steps) filled in (
@@ -111,12 +117,17 @@ learnt_clean vars live last added drops (Add id lits hints ∷ steps) k learnt k
       (parts.0, step_new live last k knows vars id lits hints learnt.0 learnt.2 parts.0),
       learnt_clean vars (with_clause live id lits) id (id ∷ added) drops steps (after k (Add id lits hints)) learnt.3 (step_knows live last k knows vars id lits hints learnt.0 learnt.2) parts.1,
     )
-learnt_clean vars live last added drops (Drop ids ∷ steps) k learnt knows filled =
-    (drop_accepted live last k knows ids learnt.0, learnt.1, learnt_clean vars (without_clauses live ids) last added (drops + 1) steps (after k (Drop ids)) learnt.2 (drop_knows live last k knows ids learnt.0) filled)
+learnt_clean vars live last added drops (Drop ids ∷ steps) k learnt knows filled = (
+  drop_accepted live last k knows ids learnt.0,
+  learnt.1,
+  learnt_clean vars (without_clauses live ids) last added (drops + 1) steps (after k (Drop ids))
+      learnt.2 (drop_knows live last k knows ids learnt.0) filled,
+)
 learnt_clean vars live last added drops (Bound id price ∷ steps) k learnt knows filled = absurd learnt
 
 -- clean steps after clean ones
-pub clean_append : (xs ys : List Step) (k : Knowledge) (added : List ℕ) (drops : ℕ) → IsCleanAfter k added drops xs → IsCleanAfter (after_all k xs) (added_by added xs) (dropped_by drops xs) ys → IsCleanAfter k added drops (xs ++ ys)
+pub clean_append : (xs ys : List Step) (k : Knowledge) (added : List ℕ) (drops : ℕ) → IsCleanAfter k added drops xs →
+    IsCleanAfter (after_all k xs) (added_by added xs) (dropped_by drops xs) ys → IsCleanAfter k added drops (xs ++ ys)
 clean_append [] ys k added drops clean rest = rest
 clean_append (s ∷ xs) ys k added drops clean rest = (clean.0, clean.1, clean_append xs ys (after k s) (added_after added s) (drops_after drops s) clean.2 rest)
 
@@ -127,7 +138,8 @@ hint-line live last h least known few held =
     let high : held.0 ≤ last = known held.0 held.2 in
     subst IsHint (sym held.1) (omega (arith, low), omega (arith, high, few))
 
-pub learnt_lines : (vars : ℕ) (live : Live) (last : ℕ) (added : List ℕ) (drops : ℕ) (steps : List Step) → AreLearnt vars live last added drops steps → ((id : ℕ) → IsSome (live id) → 1 ≤ id) → All IsId added → last + additions steps < 2 ^ 63 → All HasLine steps
+pub learnt_lines : (vars : ℕ) (live : Live) (last : ℕ) (added : List ℕ) (drops : ℕ) (steps : List Step) → AreLearnt vars live last added drops steps →
+    ((id : ℕ) → IsSome (live id) → 1 ≤ id) → All IsId added → last + additions steps < 2 ^ 63 → All HasLine steps
 learnt_lines vars live last added drops [] learnt least lines few = All-nil HasLine
 learnt_lines vars live last added drops (Add id lits hints ∷ steps) learnt least lines few =
     let range = learnt.2.range in
@@ -139,7 +151,8 @@ learnt_lines vars live last added drops (Add id lits hints ∷ steps) learnt lea
       All-weaker (IsLive live) IsHint (λ h held. hint-line live last h least learnt.1 (omega (arith, few)) held) hints learnt.2.live,
     ) in
     All-cons HasLine (Add id lits hints) steps one
-    (learnt_lines vars (with_clause live id lits) id (id ∷ added) drops steps learnt.3 (λ j some. elim (with_some live id lits j some) [ inl is ↦ omega (arith, is, learnt.0) | inr there ↦ least j there ]) (All-cons IsId id added own lines) (omega (arith, learnt.0, few)))
+    (learnt_lines vars (with_clause live id lits) id (id ∷ added) drops steps learnt.3
+    (λ j some. elim (with_some live id lits j some) [ inl is ↦ omega (arith, is, learnt.0) | inr there ↦ least j there ]) (All-cons IsId id added own lines) (omega (arith, learnt.0, few)))
 learnt_lines vars live last added drops (Drop ids ∷ steps) learnt least lines few =
     let one : HasLine (Drop ids) = All-weaker (IsOld added drops) IsId (λ id old. All-contains IsId added id lines (old_added added drops id old)) ids learnt.1 in
     All-cons HasLine (Drop ids) steps one (learnt_lines vars (without_clauses live ids) last added (drops + 1) steps learnt.2 (λ j some. least j (without_some live ids j some)) lines few)

@@ -1,5 +1,6 @@
 -- Entries that are taken back: which they are, and what is saved of them.
-use Rattle.std.proofs.Common.{◌≡◌, ◌≢◌, ℕ, zero, suc, ◌+◌, ◌-◌, ◌<◌, ◌≤◌, ◌⊎◌, ◌↔◌, inl, inr, Bool, false, List, [], ◌∷◌, length, get_or, set, take, drop, map, All, Contains, refl, ap, sym, ◌∙◌, subst, arith, ltb, slice_get, Some}
+use Rattle.std.proofs.Common.{◌≡◌, ◌≢◌, ℕ, zero, suc, ◌+◌, ◌-◌, ◌<◌, ◌≤◌, ◌⊎◌, ◌↔◌, inl, inr, Bool, false, List, []}
+use Rattle.std.proofs.Common.{◌∷◌, length, get_or, set, take, drop, map, All, Contains, refl, ap, sym, ◌∙◌, subst, arith, ltb, slice_get, Some}
 use Rattle.std.proofs.lemmas.Bool.{cond-true, cond-false, lt-ltb, le-ltb}
 use Rattle.std.proofs.lemmas.Option.{slice_get-get_or}
 use Rattle.std.proofs.lemmas.List.{get_or-take, get_or-drop, get_or-set_same, get_or-set_other, length-take-le, length-drop, drop_more}
@@ -19,16 +20,20 @@ use Rattle.sat_search.proofs.Visiting.{in_range}
 above_all : (level : ℕ) (xs : List Assigned) → All (λ e. level < e.level) xs → above xs level ≡ xs
 above_all level [] high = refl
 above_all level (x ∷ xs) high =
-    cond-true (ltb level x.level) (x ∷ above xs level) (above xs level) (lt-ltb level x.level (All-head (λ e. level < e.level) x xs high)) ∙ ap (λ (ys : List Assigned). x ∷ ys) (above_all level xs (All-tail (λ e. level < e.level) x xs high))
+    cond-true (ltb level x.level) (x ∷ above xs level) (above xs level) (lt-ltb level x.level (All-head (λ e. level < e.level) x xs high)) ∙ ap
+    (λ (ys : List Assigned). x ∷ ys) (above_all level xs (All-tail (λ e. level < e.level) x xs high))
 
 above_last : (level : ℕ) (xs : List Assigned) (n : ℕ) → All (λ e. e.level ≤ level) (take n xs) → All (λ e. level < e.level) (drop n xs) → above xs level ≡ drop n xs
 above_last level xs zero low high = above_all level xs high
 above_last level [] (suc n) low high = refl
 above_last level (x ∷ xs) (suc n) low high =
-    cond-false (ltb level x.level) (x ∷ above xs level) (above xs level) (le-ltb level x.level (All-head (λ e. e.level ≤ level) x (take n xs) low)) ∙ above_last level xs n (All-tail (λ e. e.level ≤ level) x (take n xs) low) high
+    cond-false (ltb level x.level) (x ∷ above xs level) (above xs level) (le-ltb level x.level (All-head (λ e. e.level ≤ level) x (take n xs) low)) ∙ above_last
+    level xs n (All-tail (λ e. e.level ≤ level) x (take n xs) low) high
 
 -- one entry more is taken back
-module _ (e : Assigned) (rest : List Assigned) (old mid new : Order) (was : IsReleased rest old mid) (apart : All (λ a. variable a.lit ≢ variable e.lit) rest) (low : variable e.lit < length mid.saved.items) (written : new.saved.items ≡ set mid.saved.items (variable e.lit) (is_positive e.lit)) (put : (w : ℕ) → Contains new.heap.vars w ↔ (Contains mid.heap.vars w ⊎ (w ≡ variable e.lit))) where
+module _ (e : Assigned) (rest : List Assigned) (old mid new : Order) (was : IsReleased rest old mid) (apart : All (λ a. variable a.lit ≢ variable e.lit) rest)
+    (low : variable e.lit < length mid.saved.items) (written : new.saved.items ≡ set mid.saved.items (variable e.lit) (is_positive e.lit))
+    (put : (w : ℕ) → Contains new.heap.vars w ↔ (Contains mid.heap.vars w ⊎ (w ≡ variable e.lit))) where
   here : get_or new.saved.items (variable e.lit) false ≡ is_positive e.lit
   here = ap (λ (bs : List Bool). get_or bs (variable e.lit) false) written ∙ get_or-set_same mid.saved.items (variable e.lit) (is_positive e.lit) false low
 
@@ -52,7 +57,8 @@ module _ (e : Assigned) (rest : List Assigned) (old mid new : Order) (was : IsRe
   waits w held = elim held [
     | inl first ↦ (put w).1 (inl ((was.waiting w).1 (inl first)))
     | inr some ↦ elim (Contains-append_cases (variable e.lit ∷ []) (map (λ a. variable a.lit) rest) w some) [
-      | inl this ↦ (put w).1 (inr (sym (All-contains (λ v. variable e.lit ≡ v) (variable e.lit ∷ []) w (All-cons (λ v. variable e.lit ≡ v) (variable e.lit) [] refl (All-nil (λ v. variable e.lit ≡ v))) this)))
+      | inl this ↦ (put w).1
+          (inr (sym (All-contains (λ v. variable e.lit ≡ v) (variable e.lit ∷ []) w (All-cons (λ v. variable e.lit ≡ v) (variable e.lit) [] refl (All-nil (λ v. variable e.lit ≡ v))) this)))
       | inr later ↦ (put w).1 (inl ((was.waiting w).1 (inr later)))
     ]
   ]
@@ -70,10 +76,13 @@ apart_after : (xs : List Assigned) (i : ℕ) (d : Assigned) → AreDistinct xs �
 apart_after xs i d distinct low k c l same =
     let within : i + 1 + k < length xs = omega (arith, length-drop (i + 1) xs, l) in
     let at : get_or (drop (i + 1) xs) k c ≡ get_or xs (i + 1 + k) c = get_or-drop (i + 1) xs k c in
-    let one : i ≡ i + 1 + k = distinct i (i + 1 + k) (get_or xs i d) (get_or xs (i + 1 + k) c) (slice_get-get_or xs i d low) (slice_get-get_or xs (i + 1 + k) c within) (sym same ∙ ap (λ (a : Assigned). variable a.lit) at) in
+    let one : i ≡ i + 1 + k = distinct i (i + 1 + k) (get_or xs i d) (get_or xs (i + 1 + k) c) (slice_get-get_or xs i d low) (slice_get-get_or xs (i + 1 + k) c within)
+    (sym same ∙ ap (λ (a : Assigned). variable a.lit) at) in
     absurd (omega (arith, one))
 
-low_before : (xs : List Assigned) (level place : ℕ) (d : Assigned) → ((i j : ℕ) → i ≤ j → j < length xs → (c : Assigned) → (get_or xs i c).level ≤ (get_or xs j d).level) → place ≤ length xs → (0 < place → (get_or xs (place - 1) d).level ≤ level) → All (λ e. e.level ≤ level) (take place xs)
+low_before : (xs : List Assigned) (level place : ℕ) (d : Assigned) →
+    ((i j : ℕ) → i ≤ j → j < length xs → (c : Assigned) → (get_or xs i c).level ≤ (get_or xs j d).level) → place ≤ length xs →
+    (0 < place → (get_or xs (place - 1) d).level ≤ level) → All (λ e. e.level ≤ level) (take place xs)
 low_before xs level place d rise within low k c l =
     let size : length (take place xs) ≡ place = length-take-le place xs within in
     let at : get_or (take place xs) k c ≡ get_or xs k c = get_or-take place xs k c (omega (arith, size, l)) in
@@ -87,7 +96,8 @@ module _ (s : State) (sound : IsSound s) (trail : List Assigned) (place : ℕ) (
 
   trail_rises : (i j : ℕ) → i ≤ j → j < length trail → (c : Assigned) → (get_or trail i c).level ≤ (get_or trail j d).level
   trail_rises i j up low c =
-      let at : (k : ℕ) (b : Assigned) → k < length trail → slice_get s.trail k ≡ Some (get_or trail k b) = λ k b l. ap (λ (xs : List Assigned). slice_get xs k) (sym is) ∙ slice_get-get_or trail k b l in
+      let at : (k : ℕ) (b : Assigned) → k < length trail → slice_get s.trail k ≡ Some (get_or trail k b) =
+      λ k b l. ap (λ (xs : List Assigned). slice_get xs k) (sym is) ∙ slice_get-get_or trail k b l in
       levels_rise s.clauses s.vars s.trail s.level sound.trail i j (get_or trail i c) (get_or trail j d) (at i c (omega arith)) (at j d low) up
 
   pub range_before : 0 < place → IsOf s.vars (get_or trail (place - 1) d).lit
@@ -99,18 +109,28 @@ module _ (s : State) (sound : IsSound s) (trail : List Assigned) (place : ℕ) (
       drop_more trail (place - 1) d (omega arith) ∙ ap (λ (n : ℕ). get_or trail (place - 1) d ∷ drop n trail) next
 
   pub above_more : (level : ℕ) → 0 < place → level < (get_or trail (place - 1) d).level → All (λ e. level < e.level) (drop place trail) → All (λ e. level < e.level) (drop (place - 1) trail)
-  above_more level some high later = subst (λ (xs : List Assigned). All (λ e. level < e.level) xs) (sym (rest_before some)) (All-cons (λ e. level < e.level) (get_or trail (place - 1) d) (drop place trail) high later)
+  above_more level some high later = subst (λ (xs : List Assigned). All (λ e. level < e.level) xs) (sym (rest_before some))
+      (All-cons (λ e. level < e.level) (get_or trail (place - 1) d) (drop place trail) high later)
 
-  pub released_more : (old mid new : Order) (var same : ℕ) (positive : Bool) → 0 < place → IsReleased (drop place trail) old mid → var ≡ variable (get_or trail (place - 1) d).lit → same ≡ variable (get_or trail (place - 1) d).lit → positive ≡ is_positive (get_or trail (place - 1) d).lit → var < length mid.saved.items → new.saved.items ≡ set mid.saved.items var positive → ((w : ℕ) → Contains new.heap.vars w ↔ (Contains mid.heap.vars w ⊎ (w ≡ same))) → new.activity ≡ mid.activity → new.step ≡ mid.step → IsReleased (drop (place - 1) trail) old new
+  pub released_more : (old mid new : Order) (var same : ℕ) (positive : Bool) → 0 < place → IsReleased (drop place trail) old mid →
+      var ≡ variable (get_or trail (place - 1) d).lit → same ≡ variable (get_or trail (place - 1) d).lit →
+      positive ≡ is_positive (get_or trail (place - 1) d).lit → var < length mid.saved.items → new.saved.items ≡ set mid.saved.items var positive →
+      ((w : ℕ) → Contains new.heap.vars w ↔ (Contains mid.heap.vars w ⊎ (w ≡ same))) → new.activity ≡ mid.activity → new.step ≡ mid.step → IsReleased (drop (place - 1) trail) old new
   released_more old mid new var same positive some was at also sign low written put active step =
       let e : Assigned = get_or trail (place - 1) d in
       let next : place - 1 + 1 ≡ place = omega arith in
-      let apart : All (λ a. variable a.lit ≢ variable e.lit) (drop place trail) = subst (λ (n : ℕ). All (λ a. variable a.lit ≢ variable e.lit) (drop n trail)) next (apart_after trail (place - 1) d trail_distinct (omega arith)) in
-      let put_there : (w : ℕ) → Contains new.heap.vars w ↔ (Contains mid.heap.vars w ⊎ (w ≡ variable e.lit)) = subst (λ (v : ℕ). (w : ℕ) → Contains new.heap.vars w ↔ (Contains mid.heap.vars w ⊎ (w ≡ v))) also put in
-      let written_there : new.saved.items ≡ set mid.saved.items (variable e.lit) (is_positive e.lit) = written ∙ ap (λ (v : ℕ). set mid.saved.items v positive) at ∙ ap (set mid.saved.items (variable e.lit)) sign in
-      subst (λ (xs : List Assigned). IsReleased xs old new) (sym (rest_before some)) (released_cons e (drop place trail) old mid new was apart (subst (λ (v : ℕ). v < length mid.saved.items) at low) written_there put_there active step)
+      let apart : All (λ a. variable a.lit ≢ variable e.lit) (drop place trail) =
+      subst (λ (n : ℕ). All (λ a. variable a.lit ≢ variable e.lit) (drop n trail)) next (apart_after trail (place - 1) d trail_distinct (omega arith)) in
+      let put_there : (w : ℕ) → Contains new.heap.vars w ↔ (Contains mid.heap.vars w ⊎ (w ≡ variable e.lit)) =
+      subst (λ (v : ℕ). (w : ℕ) → Contains new.heap.vars w ↔ (Contains mid.heap.vars w ⊎ (w ≡ v))) also put in
+      let written_there : new.saved.items ≡ set mid.saved.items (variable e.lit) (is_positive e.lit) =
+      written ∙ ap (λ (v : ℕ). set mid.saved.items v positive) at ∙ ap (set mid.saved.items (variable e.lit)) sign in
+      subst (λ (xs : List Assigned). IsReleased xs old new) (sym (rest_before some))
+      (released_cons e (drop place trail) old mid new was apart (subst (λ (v : ℕ). v < length mid.saved.items) at low) written_there put_there active step)
 
-  pub released_all : (level : ℕ) (old new : Order) → (0 < place → (get_or trail (place - 1) d).level ≤ level) → All (λ e. level < e.level) (drop place trail) → IsReleased (drop place trail) old new → IsReleased (above s.trail level) old new
+  pub released_all : (level : ℕ) (old new : Order) → (0 < place → (get_or trail (place - 1) d).level ≤ level) → All (λ e. level < e.level) (drop place trail) →
+      IsReleased (drop place trail) old new → IsReleased (above s.trail level) old new
   released_all level old new low high released =
-      let last : above s.trail level ≡ drop place trail = ap (λ (xs : List Assigned). above xs level) (sym is) ∙ above_last level trail place (low_before trail level place d trail_rises within low) high in
+      let last : above s.trail level ≡ drop place trail = ap (λ (xs : List Assigned). above xs level) (sym is)
+      ∙ above_last level trail place (low_before trail level place d trail_rises within low) high in
       subst (λ (xs : List Assigned). IsReleased xs old new) (sym last) released

@@ -23,8 +23,10 @@ use Rattle.sat_search.proofs.Marking.{one_or_apart, apart_same, cleared_other, c
 use Rattle.sat_search.proofs.Passing.{distinct, trail_consistent, so_false, makes_same, live_hint, open_some, counted_less}
 
 -- what an entry's negation and its reason leave in the clause so far
-module _ (s : State) (sound : IsSound s) (first : ℕ) (flags : List Bool) (lits : List Lit) (hints : List ℤ) (current : ℕ) (a : Assigned) (at : slice_get s.trail first ≡ Some a) (was : is_marked flags (negated a.lit) ≡ true) (pass : IsPass s (first + 1) flags lits hints current)
-    (cleared more : List Bool) (clears : IsCleared flags cleared (negated a.lit)) (id : ℕ) (reason : List Lit) (live : clause_in s.clauses id ≡ Some reason) (implies : Implies (take first s.trail) reason a.lit) (joins : IsJoined s.trail cleared more reason) where
+module _ (s : State) (sound : IsSound s) (first : ℕ) (flags : List Bool) (lits : List Lit) (hints : List ℤ) (current : ℕ) (a : Assigned) (at : slice_get s.trail first ≡ Some a)
+    (was : is_marked flags (negated a.lit) ≡ true) (pass : IsPass s (first + 1) flags lits hints current)
+    (cleared more : List Bool) (clears : IsCleared flags cleared (negated a.lit)) (id : ℕ) (reason : List Lit) (live : clause_in s.clauses id ≡ Some reason)
+    (implies : Implies (take first s.trail) reason a.lit) (joins : IsJoined s.trail cleared more reason) where
   entry_on_trail : IsTrue (is_on s.trail a.lit)
   entry_on_trail = entry_on s.trail first a a.lit at refl
 
@@ -85,7 +87,8 @@ module _ (s : State) (sound : IsSound s) (first : ℕ) (flags : List Bool) (lits
     alone = λ l h held. elim (one_or_apart (negated l) a.lit) [
       | inl is ↦ ap variable (sym (negated-negated l) ∙ ap negated is)
       | inr apart ↦ absurd (trail_consistent s sound l
-          (subst (λ (x : Lit). IsTrue (is_on s.trail x)) (negated-negated l) (within_on s.trail 0 first (negated (negated l)) (false_before (negated l) (among_contains reason (negated l) held) apart)))
+          (subst (λ (x : Lit). IsTrue (is_on s.trail x)) (negated-negated l)
+          (within_on s.trail 0 first (negated (negated l)) (false_before (negated l) (among_contains reason (negated l) held) apart)))
           (so_false s sound (first + 1) flags lits hints current pass l h))
     ];
   }
@@ -106,12 +109,15 @@ module _ (s : State) (sound : IsSound s) (first : ℕ) (flags : List Bool) (lits
       (λ h. elim (or_cases (is_marked more m) (is_among lits m) h) [
         | inl marked ↦ elim (pending_cases m marked) [
           | inl old ↦ or_left (so_far flags lits m && not (same (negated a.lit) m)) (is_among reason m && not (same (negated (negated a.lit)) m))
-              (and_from (so_far flags lits m) (not (same (negated a.lit) m)) (or_left (is_marked flags m) (is_among lits m) old.0) (not_from_false (same (negated a.lit) m) (apart_same (negated a.lit) m old.1)))
+              (and_from (so_far flags lits m) (not (same (negated a.lit) m)) (or_left (is_marked flags m) (is_among lits m) old.0)
+              (not_from_false (same (negated a.lit) m) (apart_same (negated a.lit) m old.1)))
           | inr new ↦ or_right (so_far flags lits m && not (same (negated a.lit) m)) (is_among reason m && not (same (negated (negated a.lit)) m))
-              (and_from (is_among reason m) (not (same (negated (negated a.lit)) m)) new.0 (not_from_false (same (negated (negated a.lit)) m) (apart_same (negated (negated a.lit)) m (λ is. new.1 (is ∙ negated-negated a.lit)))))
+              (and_from (is_among reason m) (not (same (negated (negated a.lit)) m)) new.0
+              (not_from_false (same (negated (negated a.lit)) m) (apart_same (negated (negated a.lit)) m (λ is. new.1 (is ∙ negated-negated a.lit)))))
         ]
         | inr among ↦ or_left (so_far flags lits m && not (same (negated a.lit) m)) (is_among reason m && not (same (negated (negated a.lit)) m))
-            (and_from (so_far flags lits m) (not (same (negated a.lit) m)) (or_right (is_marked flags m) (is_among lits m) among) (not_from_false (same (negated a.lit) m) (apart_same (negated a.lit) m (kept_apart m among))))
+            (and_from (so_far flags lits m) (not (same (negated a.lit) m)) (or_right (is_marked flags m) (is_among lits m) among)
+            (not_from_false (same (negated a.lit) m) (apart_same (negated a.lit) m (kept_apart m among))))
       ])
 
   -- marking more opens no fewer entries
@@ -145,14 +151,16 @@ module _ (s : State) (sound : IsSound s) (first : ℕ) (flags : List Bool) (lits
             absurd (omega (arith, low, below, level_is))
       ])
 
-  point_below : (rest next : ℕ) → current ≡ rest + once (a.level == s.level) → rest ≤ next → a.level < s.level → next ≡ open_in s.level s.trail more → HasOneOfLevel s lits current → HasOneOfLevel s lits next
+  point_below : (rest next : ℕ) → current ≡ rest + once (a.level == s.level) → rest ≤ next → a.level < s.level → next ≡ open_in s.level s.trail more →
+      HasOneOfLevel s lits current → HasOneOfLevel s lits next
   point_below rest next sum rises below after (inl before) = inl (before.0, omega (arith, before.1, sum, rises, ap once (ne_eqb a.level s.level (λ e. absurd (omega (arith, e, below))))))
   point_below rest next sum rises below after (inr done) = inr (done.0, none_opened next below done.1 after)
 
   cleared_count : (rest : ℕ) → current ≡ rest + once (a.level == s.level) → rest ≡ open_in s.level s.trail cleared
   cleared_count rest sum = counted_less s sound first flags lits hints current a at was pass cleared clears rest sum
 
-  pub pass_resolves : (rest next : ℕ) → length more ≡ length flags → current ≡ rest + once (a.level == s.level) → next ≡ open_in s.level s.trail more → (1 ≤ s.level → a.level < s.level) ⊎ ((a.level ≡ s.level) × (2 ≤ current)) → IsPass s first more lits (pos id ∷ hints) next
+  pub pass_resolves : (rest next : ℕ) → length more ≡ length flags → current ≡ rest + once (a.level == s.level) → next ≡ open_in s.level s.trail more →
+      (1 ≤ s.level → a.level < s.level) ⊎ ((a.level ≡ s.level) × (2 ≤ current)) → IsPass s first more lits (pos id ∷ hints) next
   pass_resolves rest next size sum after why = record {
     size = size ∙ pass.size;
     pending = pending_before;

@@ -42,7 +42,8 @@ rise_take n xs few rise i j d before high =
     let size : length (take n xs) ≡ n = length-take-le n xs few in
     rw (get_or-take n xs i d (omega (arith, size, before, high)), get_or-take n xs j d (omega (arith, size, high))) (rise i j d before (omega (arith, size, few, high)))
 
-pub finds_first : (xs : List ℕ) (n x k : ℕ) (r : Result ℕ ℕ) → n ≤ length xs → IsBinarySearchResult (λ y. nat_cmp y x) (take n xs) r → AllPairs (λ a b. a < b) xs → k < n → slice_get xs k ≡ Some x → result_ok r ≡ Some k
+pub finds_first : (xs : List ℕ) (n x k : ℕ) (r : Result ℕ ℕ) → n ≤ length xs → IsBinarySearchResult (λ y. nat_cmp y x) (take n xs) r →
+    AllPairs (λ a b. a < b) xs → k < n → slice_get xs k ≡ Some x → result_ok r ≡ Some k
 finds_first xs n x k r few found rise low at =
     let size : length (take n xs) ≡ n = length-take-le n xs few in
     search_finds (take n xs) x k r found (rise_take n xs few rise) (omega (arith, size, low)) (get_or-take n xs k 0 low ∙ get_or_from_slice_get xs k x 0 at)

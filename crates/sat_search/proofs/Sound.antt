@@ -1,5 +1,6 @@
 -- What a sound trail says of its entries by their places.
-use Rattle.std.proofs.Common.{◌≡◌, ℕ, zero, suc, ◌+◌, ◌<◌, ◌≤◌, Bool, true, false, IsTrue, inl, inr, List, [], ◌∷◌, ◌++◌, length, take, drop, slice_get, refl, ap, sym, ◌∙◌, subst, arith, Option, Some, None, IfSome, IsSomeAnd, cond}
+use Rattle.std.proofs.Common.{◌≡◌, ℕ, zero, suc, ◌+◌, ◌<◌, ◌≤◌, Bool, true, false, IsTrue, inl, inr, List, [], ◌∷◌}
+use Rattle.std.proofs.Common.{◌++◌, length, take, drop, slice_get, refl, ap, sym, ◌∙◌, subst, arith, Option, Some, None, IfSome, IsSomeAnd, cond}
 use Rattle.std.specs.Prelude.{is_none, nat_le}
 use Rattle.std.proofs.lemmas.Bool.{cases_order, or_cases, or_left, or_right, false≢true, both_ways, le-leb, leb-true}
 use Rattle.std.proofs.lemmas.Option.{none-some, same_Some, slice_get_within, get_or_from_slice_get}
@@ -53,7 +54,8 @@ module _ (clauses : List Numbered) (vars : ℕ) (trail : List Assigned) (level :
   decisions_rise : (m n : ℕ) → m ≤ n → decisions (take m trail) ≤ decisions (take n trail)
   decisions_rise m n up =
       let parts : take n trail ≡ take m trail ++ drop m (take n trail) = sym (take-append-drop m (take n trail)) ∙ ap (λ (xs : List Assigned). xs ++ drop m (take n trail)) (take-take m n trail up) in
-      let sum : decisions (take n trail) ≡ decisions (take m trail) + decisions (drop m (take n trail)) = ap decisions parts ∙ sum_by-append (λ (e : Assigned). cond (is_none e.reason) 1 0) (take m trail) (drop m (take n trail)) in
+      let sum : decisions (take n trail) ≡ decisions (take m trail) + decisions (drop m (take n trail)) =
+      ap decisions parts ∙ sum_by-append (λ (e : Assigned). cond (is_none e.reason) 1 0) (take m trail) (drop m (take n trail)) in
       omega (arith, sum)
 
   -- levels rise along the trail
@@ -80,7 +82,8 @@ module _ (clauses : List Numbered) (vars : ℕ) (trail : List Assigned) (level :
   decision_first i j a b at none to before = omega (arith, decision_count i a at none, entry_level j b to, decisions_rise (j + 1) i (omega arith))
 
   -- the reason of an entry that is no decision
-  reason-clause : (i : ℕ) (a : Assigned) (h : Held) (o : Option Held) → o ≡ Some h → IfSome o (λ g. IsSomeAnd (clause_at clauses g) (λ lits. Implies (take i trail) lits a.lit)) → IsSomeAnd (clause_at clauses h) (λ lits. Implies (take i trail) lits a.lit)
+  reason-clause : (i : ℕ) (a : Assigned) (h : Held) (o : Option Held) → o ≡ Some h →
+      IfSome o (λ g. IsSomeAnd (clause_at clauses g) (λ lits. Implies (take i trail) lits a.lit)) → IsSomeAnd (clause_at clauses h) (λ lits. Implies (take i trail) lits a.lit)
   reason-clause i a h None e r = absurd (none-some h e)
   reason-clause i a h (Some g) e r = subst (λ (x : Held). IsSomeAnd (clause_at clauses x) (λ lits. Implies (take i trail) lits a.lit)) (same_Some g h e) r
 
@@ -97,7 +100,8 @@ up_to_on [] level place a at low = absurd (none-some a at)
 up_to_on (b ∷ trail) level zero a at low =
     let is : b ≡ a = same_Some b a at in
     let kept : nat_le b.level level ≡ true = le-leb b.level level (omega (arith, ap (λ (x : Assigned). x.level) is)) in
-    ap (λ (c : Bool). is_on (cond c (b ∷ up_to trail level) (up_to trail level)) a.lit) kept ∙ or_left (same b.lit a.lit) (is_on (up_to trail level) a.lit) (eq-same b.lit a.lit (ap (λ (x : Assigned). x.lit) is))
+    ap (λ (c : Bool). is_on (cond c (b ∷ up_to trail level) (up_to trail level)) a.lit) kept
+    ∙ or_left (same b.lit a.lit) (is_on (up_to trail level) a.lit) (eq-same b.lit a.lit (ap (λ (x : Assigned). x.lit) is))
 up_to_on (b ∷ trail) level (suc place) a at low = up-to-more b trail level (nat_le b.level level) a.lit (up_to_on trail level place a at low)
 
 -- and back
@@ -111,7 +115,8 @@ pub record IsUpTo (trail : List Assigned) (level : ℕ) (l : Lit) : Type 0 where
 up-to-later : (b : Assigned) (trail : List Assigned) (level : ℕ) (l : Lit) → IsUpTo trail level l → IsUpTo (b ∷ trail) level l
 up-to-later b trail level l u = record { place = suc u.place; entry = u.entry; at = u.at; literal = u.literal; low = u.low }
 
-up-to-cases : (b : Assigned) (trail : List Assigned) (level : ℕ) (c : Bool) (l : Lit) → nat_le b.level level ≡ c → (IsTrue (is_on (up_to trail level) l) → IsUpTo trail level l) → IsTrue (is_on (cond c (b ∷ up_to trail level) (up_to trail level)) l) → IsUpTo (b ∷ trail) level l
+up-to-cases : (b : Assigned) (trail : List Assigned) (level : ℕ) (c : Bool) (l : Lit) → nat_le b.level level ≡ c →
+    (IsTrue (is_on (up_to trail level) l) → IsUpTo trail level l) → IsTrue (is_on (cond c (b ∷ up_to trail level) (up_to trail level)) l) → IsUpTo (b ∷ trail) level l
 up-to-cases b trail level true l e rest h = elim (or_cases (same b.lit l) (is_on (up_to trail level) l) h) [
   | inl here ↦ record { place = 0; entry = b; at = refl; literal = same-eq b.lit l here; low = leb-true b.level level e }
   | inr there ↦ up-to-later b trail level l (rest there)

@@ -72,7 +72,8 @@ abbrev pub AreDistinct : List Assigned → Type 0
 AreDistinct trail = (i j : ℕ) (a b : Assigned) → slice_get trail i ≡ Some a → slice_get trail j ≡ Some b → variable a.lit ≡ variable b.lit → i ≡ j
 
 -- so literals of one variable stand at one place, and are one
-pub one_place : (trail : List Assigned) (low high from to : ℕ) (l m : Lit) → AreDistinct trail → (s : IsSetWithin trail low high l) (t : IsSetWithin trail from to m) → variable l ≡ variable m → s.place ≡ t.place
+pub one_place : (trail : List Assigned) (low high from to : ℕ) (l m : Lit) → AreDistinct trail →
+    (s : IsSetWithin trail low high l) (t : IsSetWithin trail from to m) → variable l ≡ variable m → s.place ≡ t.place
 one_place trail low high from to l m distinct s t e =
     distinct s.place t.place s.entry t.entry s.at t.at (ap variable s.literal ∙ e ∙ sym (ap variable t.literal))
 

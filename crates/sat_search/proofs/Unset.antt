@@ -1,5 +1,6 @@
 -- The variables that a trail leaves unset are in the heap.
-use Rattle.std.proofs.Common.{◌≡◌, ◌≢◌, ℕ, zero, suc, ◌<◌, ◌≤◌, ◌↔◌, inl, inr, Bool, true, false, cond, IsTrue, List, [], ◌∷◌, map, slice_get, get_or, All, Contains, ap, sym, ◌∙◌, subst, arith, ltb, Some}
+use Rattle.std.proofs.Common.{◌≡◌, ◌≢◌, ℕ, zero, suc, ◌<◌, ◌≤◌, ◌↔◌, inl, inr, Bool, true, false, cond, IsTrue}
+use Rattle.std.proofs.Common.{List, [], ◌∷◌, map, slice_get, get_or, All, Contains, ap, sym, ◌∙◌, subst, arith, ltb, Some}
 use Rattle.std.proofs.lemmas.Bool.{cases_eq, cases_lt, lt-ltb, or_cases, or_left, or_right}
 use Rattle.std.proofs.lemmas.Option.{none-some, same_Some}
 use Rattle.std.proofs.lemmas.List.Elements.{All-contains, Contains-get_or, Contains-append_right}
@@ -47,7 +48,8 @@ waits_on s now order waiting vars keeps var least most = elim (waiting var least
 ]
 
 -- and one that is set leaves
-pub waits_without : (s now : State) (was order : Order) (first : ℕ) → HoldsUnset s.vars s.trail was → now.vars ≡ s.vars → KeepsTrue s.trail now.trail → ((w : ℕ) → Contains order.heap.vars w ↔ (Contains was.heap.vars w × (w ≢ first))) → IsTrue (is_set now.trail first) → HoldsUnset now.vars now.trail order
+pub waits_without : (s now : State) (was order : Order) (first : ℕ) → HoldsUnset s.vars s.trail was → now.vars ≡ s.vars → KeepsTrue s.trail now.trail →
+    ((w : ℕ) → Contains order.heap.vars w ↔ (Contains was.heap.vars w × (w ≢ first))) → IsTrue (is_set now.trail first) → HoldsUnset now.vars now.trail order
 waits_without s now was order first waiting vars keeps gone done var least most = elim (waits_on s now was waiting vars keeps var least most) [
   | inl set ↦ inl set
   | inr held ↦ elim (cases_eq var first) [
@@ -59,7 +61,8 @@ waits_without s now was order first waiting vars keeps gone done var least most 
 -- the one that leaves is as active as any that stays
 pub active_first : (was order : Order) (activity : List ℕ) (first : ℕ) → activity ≡ order.activity.items → IsTaken activity was.heap order.heap first → IsMostActive order first
 active_first was order activity first is taken = subst (λ (ns : List ℕ). All (λ w. get_or ns w 0 ≤ get_or ns first 0) order.heap.vars) is
-    (λ k d low. All-contains (λ w. get_or activity w 0 ≤ get_or activity first 0) was.heap.vars (get_or order.heap.vars k d) taken.most ((taken.gone (get_or order.heap.vars k d)).0 (Contains-get_or order.heap.vars k d low)).0)
+    (λ k d low. All-contains (λ w. get_or activity w 0 ≤ get_or activity first 0) was.heap.vars (get_or order.heap.vars k d) taken.most
+    ((taken.gone (get_or order.heap.vars k d)).0 (Contains-get_or order.heap.vars k d low)).0)
 
 -- the heap may have the same variables in another order
 pub waits_same : (vars : ℕ) (trail : List Assigned) (old new : Order) → HoldsUnset vars trail old → HaveSame old.heap.vars new.heap.vars → HoldsUnset vars trail new
@@ -86,7 +89,8 @@ above_holds [] level place a at high = absurd (none-some a at)
 above_holds (b ∷ trail) level zero a at high =
     let is : b ≡ a = same_Some b a at in
     let kept : ltb level b.level ≡ true = lt-ltb level b.level (omega (arith, high, ap (λ (x : Assigned). x.level) is)) in
-    subst (λ (c : Bool). Contains (map (λ e. variable e.lit) (cond c (b ∷ above trail level) (above trail level))) (variable a.lit)) (sym kept) (0, omega arith, ap (λ (x : Assigned). variable x.lit) is)
+    subst (λ (c : Bool). Contains (map (λ e. variable e.lit) (cond c (b ∷ above trail level) (above trail level))) (variable a.lit)) (sym kept)
+    (0, omega arith, ap (λ (x : Assigned). variable x.lit) is)
 above_holds (b ∷ trail) level (suc place) a at high =
     above-more b (above trail level) (ltb level b.level) (variable a.lit) (above_holds trail level place a at high)
 
@@ -97,7 +101,8 @@ waits_released vars level trail old new released waiting var least most = elim (
       let s = set_as trail var set in
       let e = on-set trail (literal var s.0) s.1 in
       elim (cases_lt level e.entry.level) [
-        | inl high ↦ inr ((released.waiting var).1 (inr (subst (Contains (map (λ a. variable a.lit) (above trail level))) (ap variable e.literal ∙ variable-of var s.0) (above_holds trail level e.place e.entry e.at high))))
+        | inl high ↦ inr ((released.waiting var).1
+            (inr (subst (Contains (map (λ a. variable a.lit) (above trail level))) (ap variable e.literal ∙ variable-of var s.0) (above_holds trail level e.place e.entry e.at high))))
         | inr low ↦ inl (set_by (up_to trail level) var s.0 (subst (λ (m : Lit). IsTrue (is_on (up_to trail level) m)) e.literal (up_to_on trail level e.place e.entry e.at low)))
       ]
   | inr held ↦ inr ((released.waiting var).1 (inl held))

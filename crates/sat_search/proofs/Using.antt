@@ -19,11 +19,14 @@ any_next test xs i d low =
     ap (list_any test) (take_more xs i d low) ∙ list_any-append test (take i xs) (get_or xs i d ∷ []) ∙ ap (λ (b : Bool). list_any test (take i xs) || b) (or_nothing (test (get_or xs i d)))
 
 -- what is set by some elements, and by one more
-pub step_next : {X : Type 0} (test : ℕ → X → Bool) (xs : List X) (i : ℕ) (d x : X) (place id : ℕ) (mid new : List Bool) → i < length xs → x ≡ get_or xs i d → get_or mid place true ≡ list_any (test id) (take i xs) → get_or new place true ≡ (get_or mid place true || test id x) → get_or new place true ≡ list_any (test id) (take (i + 1) xs)
+pub step_next : {X : Type 0} (test : ℕ → X → Bool) (xs : List X) (i : ℕ) (d x : X) (place id : ℕ) (mid new : List Bool) → i < length xs → x ≡ get_or xs i d →
+    get_or mid place true ≡ list_any (test id) (take i xs) → get_or new place true ≡ (get_or mid place true || test id x) → get_or new place true ≡ list_any (test id) (take (i + 1) xs)
 step_next test xs i d x place id mid new low is before after =
     after ∙ ap (λ (b : Bool). b || test id x) before ∙ ap (λ y. list_any (test id) (take i xs) || test id y) is ∙ sym (any_next (test id) xs i d low)
 
-pub set_next : {X : Type 0} (ids : List ℕ) (test : ℕ → X → Bool) (xs : List X) (i : ℕ) (d x : X) (old mid new : List Bool) → i < length xs → x ≡ get_or xs i d → length mid ≡ length old → AreSetToo ids (λ id. list_any (test id) (take i xs)) old mid → AreSetToo ids (λ id. test id x) mid new → AreSetToo ids (λ id. list_any (test id) (take (i + 1) xs)) old new
+pub set_next : {X : Type 0} (ids : List ℕ) (test : ℕ → X → Bool) (xs : List X) (i : ℕ) (d x : X) (old mid new : List Bool) → i < length xs → x ≡ get_or xs i d →
+    length mid ≡ length old → AreSetToo ids (λ id. list_any (test id) (take i xs)) old mid → AreSetToo ids (λ id. test id x) mid new →
+    AreSetToo ids (λ id. list_any (test id) (take (i + 1) xs)) old new
 set_next ids test xs i d x old mid new low is size before after place id below at =
     after place id (omega (arith, size, below)) at
     ∙ ap (λ (b : Bool). b || test id x) (before place id below at)

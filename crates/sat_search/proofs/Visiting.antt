@@ -1,5 +1,6 @@
 -- What a visit of the pass finds at an entry, and what it leaves.
-use Rattle.std.proofs.Common.{◌≡◌, ◌≢◌, ℕ, ◌+◌, ◌*◌, ◌<◌, ◌≤◌, ℤ, pos, Bool, true, false, ◌||◌, cond, ◌⊎◌, inl, inr, List, [], ◌∷◌, ◌++◌, length, take, reverse, slice_get, get_or, refl, ap, sym, ◌∙◌, subst, arith, Option, Some, None, IsSomeAnd, IfSome, option_map}
+use Rattle.std.proofs.Common.{◌≡◌, ◌≢◌, ℕ, ◌+◌, ◌*◌, ◌<◌, ◌≤◌, ℤ, pos, Bool, true, false, ◌||◌, cond, ◌⊎◌, inl, inr, List, []}
+use Rattle.std.proofs.Common.{◌∷◌, ◌++◌, length, take, reverse, slice_get, get_or, refl, ap, sym, ◌∙◌, subst, arith, Option, Some, None, IsSomeAnd, IfSome, option_map}
 use Rattle.std.specs.Prelude.{◌==◌, nat_lt}
 use Rattle.std.specs.Option.{option_to_list}
 use Rattle.std.proofs.lemmas.Bool.{cases_eq, or_cases, or_parts, and_parts, cond-true, eq-eqb, eqb-true, eqb-false, ltb-true, ltb-false}
@@ -72,7 +73,8 @@ reason_below s sound first a at h some =
     held-below None e p = absurd p
     held-below (Some ls) e p = slice_get_within s.clauses h.0 (clause_found s.clauses h ls e).0 (clause_found s.clauses h ls e).1
 
-module _ (s : State) (sound : IsSound s) (first : ℕ) (flags : List Bool) (lits : List Lit) (hints : List ℤ) (current : ℕ) (a : Assigned) (at : slice_get s.trail first ≡ Some a) (was : is_marked flags (negated a.lit) ≡ true) (pass : IsPass s (first + 1) flags lits hints current) (more : List Bool) (clears : IsCleared flags more (negated a.lit)) where
+module _ (s : State) (sound : IsSound s) (first : ℕ) (flags : List Bool) (lits : List Lit) (hints : List ℤ) (current : ℕ) (a : Assigned) (at : slice_get s.trail first ≡ Some a)
+    (was : is_marked flags (negated a.lit) ≡ true) (pass : IsPass s (first + 1) flags lits hints current) (more : List Bool) (clears : IsCleared flags more (negated a.lit)) where
   -- before a decision nothing of its level is open
   alone : (rest : ℕ) → a.reason ≡ None → a.level ≡ s.level → current ≡ rest + once (a.level == s.level) → current ≤ 1
   alone rest none level_is sum =
@@ -100,7 +102,8 @@ module _ (s : State) (sound : IsSound s) (first : ℕ) (flags : List Bool) (lits
         | inr other ↦ omega (arith, other, most)
       ]
 
-  pub visit_keeps : (rest : ℕ) (spared : Bool) → length more ≡ length flags → current ≡ rest + once (a.level == s.level) → resolving_reason s.level current spared a ≡ None → IsPass s first more (lits ++ negated a.lit ∷ []) hints rest
+  pub visit_keeps : (rest : ℕ) (spared : Bool) → length more ≡ length flags → current ≡ rest + once (a.level == s.level) →
+      resolving_reason s.level current spared a ≡ None → IsPass s first more (lits ++ negated a.lit ∷ []) hints rest
   visit_keeps rest spared size sum e =
       let why = kept_why rest spared sum e in
       pass_keeps s sound first flags lits hints current a at was pass more clears rest size sum why.0 why.1
@@ -118,28 +121,36 @@ module _ (s : State) (sound : IsSound s) (first : ℕ) (flags : List Bool) (lits
   ]
 
   -- the reason is joined
-  pub visit_resolves : (h : Held) (spared : Bool) (joined : List Bool) (rest next : ℕ) (all_hints : List ℤ) → length joined ≡ length flags → current ≡ rest + once (a.level == s.level) → resolving_reason s.level current spared a ≡ Some h →
-      IfSome (clause_at s.clauses h) (IsJoined s.trail more joined) → next ≡ open_in s.level s.trail joined → reverse all_hints ≡ hints → (taken : List ℤ) → taken ≡ all_hints ++ option_to_list (hint_at s.clauses h) → IsPass s first joined lits (reverse taken) next
+  pub visit_resolves : (h : Held) (spared : Bool) (joined : List Bool) (rest next : ℕ) (all_hints : List ℤ) → length joined ≡ length flags →
+      current ≡ rest + once (a.level == s.level) → resolving_reason s.level current spared a ≡ Some h →
+      IfSome (clause_at s.clauses h) (IsJoined s.trail more joined) → next ≡ open_in s.level s.trail joined → reverse all_hints ≡ hints → (taken : List ℤ) →
+      taken ≡ all_hints ++ option_to_list (hint_at s.clauses h) → IsPass s first joined lits (reverse taken) next
   visit_resolves h spared joined rest next all_hints size sum e joins after is taken taken_is =
       let why = resolved_why s.level current spared a h e in
       let reason = some-clause (clause_at s.clauses h) [] (entry_reason s.clauses s.vars s.trail s.level sound.trail first a h at why.1) joins in
       let c = clause_found s.clauses h reason.0 reason.1 in
       let live : clause_in s.clauses c.0.id ≡ Some reason.0 = held_at s.clauses h.0 c.0 sound.different c.1 ∙ ap Some c.2 in
       let hint_is : hint_at s.clauses h ≡ Some (pos c.0.id) = ap (λ (o : Option Numbered). option_map pos (option_map (λ (d : Numbered). d.id) o)) c.1 in
-      let hints_are : reverse taken ≡ pos c.0.id ∷ hints = ap reverse (taken_is ∙ ap (λ (o : Option ℤ). all_hints ++ option_to_list o) hint_is) ∙ reverse-append all_hints (pos c.0.id ∷ []) ∙ ap (λ (hs : List ℤ). pos c.0.id ∷ hs) is in
+      let hints_are : reverse taken ≡ pos c.0.id ∷ hints = ap reverse (taken_is ∙ ap (λ (o : Option ℤ). all_hints ++ option_to_list o) hint_is)
+      ∙ reverse-append all_hints (pos c.0.id ∷ []) ∙ ap (λ (hs : List ℤ). pos c.0.id ∷ hs) is in
       subst (λ (hs : List ℤ). IsPass s first joined lits hs next) (sym hints_are)
       (pass_resolves s sound first flags lits hints current a at was pass more joined clears c.0.id reason.0 live reason.2 reason.3 rest next size sum after (below_or why.0))
 
   -- the same, with the level as a core tells it
-  pub visited_keeps : (level other rest : ℕ) (spared : Bool) (new_lits : List Lit) (new_hints : List ℤ) → level ≡ s.level → other ≡ s.level → length more ≡ length flags → current ≡ rest + once (a.level == other) → resolving_reason level current spared a ≡ None → new_lits ≡ lits ++ negated a.lit ∷ [] → new_hints ≡ hints → IsPass s first more new_lits new_hints rest
+  pub visited_keeps : (level other rest : ℕ) (spared : Bool) (new_lits : List Lit) (new_hints : List ℤ) → level ≡ s.level → other ≡ s.level →
+      length more ≡ length flags → current ≡ rest + once (a.level == other) → resolving_reason level current spared a ≡ None →
+      new_lits ≡ lits ++ negated a.lit ∷ [] → new_hints ≡ hints → IsPass s first more new_lits new_hints rest
   visited_keeps level other rest spared new_lits new_hints level_is other_is size sum none lits_are hints_are =
       let kept = visit_keeps rest spared size (sum ∙ ap (λ (n : ℕ). rest + once (a.level == n)) other_is) (ap (λ (n : ℕ). resolving_reason n current spared a) (sym level_is) ∙ none) in
       subst (λ (hs : List ℤ). IsPass s first more new_lits hs rest) (sym hints_are) (subst (λ (ls : List Lit). IsPass s first more ls hints rest) (sym lits_are) kept)
 
-  pub visited_resolves : (level other : ℕ) (spared : Bool) (h : Held) (joined : List Bool) (rest next : ℕ) (new_lits : List Lit) (all_hints taken : List ℤ) → level ≡ s.level → other ≡ s.level → length joined ≡ length flags → current ≡ rest + once (a.level == other) → resolving_reason level current spared a ≡ Some h →
-      IfSome (clause_at s.clauses h) (IsJoined s.trail more joined) → next ≡ open_in s.level s.trail joined → reverse all_hints ≡ hints → taken ≡ all_hints ++ option_to_list (hint_at s.clauses h) → new_lits ≡ lits → IsPass s first joined new_lits (reverse taken) next
+  pub visited_resolves : (level other : ℕ) (spared : Bool) (h : Held) (joined : List Bool) (rest next : ℕ) (new_lits : List Lit) (all_hints taken : List ℤ) →
+      level ≡ s.level → other ≡ s.level → length joined ≡ length flags → current ≡ rest + once (a.level == other) → resolving_reason level current spared a ≡ Some h →
+      IfSome (clause_at s.clauses h) (IsJoined s.trail more joined) → next ≡ open_in s.level s.trail joined → reverse all_hints ≡ hints →
+      taken ≡ all_hints ++ option_to_list (hint_at s.clauses h) → new_lits ≡ lits → IsPass s first joined new_lits (reverse taken) next
   visited_resolves level other spared h joined rest next new_lits all_hints taken level_is other_is size sum some joins after is taken_is lits_are =
-      let resolved = visit_resolves h spared joined rest next all_hints size (sum ∙ ap (λ (n : ℕ). rest + once (a.level == n)) other_is) (ap (λ (n : ℕ). resolving_reason n current spared a) (sym level_is) ∙ some) joins after is taken taken_is in
+      let resolved = visit_resolves h spared joined rest next all_hints size (sum ∙ ap (λ (n : ℕ). rest + once (a.level == n)) other_is)
+      (ap (λ (n : ℕ). resolving_reason n current spared a) (sym level_is) ∙ some) joins after is taken taken_is in
       subst (λ (ls : List Lit). IsPass s first joined ls (reverse taken) next) (sym lits_are) resolved
 
   -- what the next call needs

@@ -53,7 +53,8 @@ module _ (steps : List Step) (i : ℕ) (step : Step) (old new now : Lemmas) (was
   moves : (s : Step) → step ≡ s → Begins (take i steps ++ s ∷ []) new → Begins (take (i + 1) steps) now
   moves s is begins = subst (λ (l : Lemmas). Begins (take (i + 1) steps) l) (sym same) (subst (λ (xs : List Step). Begins xs new) (sym (more s is)) begins)
 
-  pub begins_add : (id : ℕ) (lits : List Lit) (hints : List ℤ) → step ≡ Add id lits hints → new.levels.items ≡ old.levels.items ++ length lits ∷ [] → new.from ≡ old.from → Begins (take (i + 1) steps) now
+  pub begins_add : (id : ℕ) (lits : List Lit) (hints : List ℤ) → step ≡ Add id lits hints → new.levels.items ≡ old.levels.items ++ length lits ∷ [] →
+      new.from ≡ old.from → Begins (take (i + 1) steps) now
   begins_add id lits hints is levels from = moves (Add id lits hints) is (record {
     levels = levels ∙ ap (λ (s : List ℕ). s ++ length lits ∷ []) was.levels ∙ sym (sizes_append (take i steps) (Add id lits hints ∷ []));
     from = from ∙ was.from;

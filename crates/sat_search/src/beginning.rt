@@ -1,7 +1,7 @@
 //! The core that a search over a formula begins with. The cost is that of the formula's literals.
-ghost use Rattle.std.specs.Prelude.{◌≡◌, ◌<◌, ◌≤◌, ◌^◌, length, IfOk};
 ghost use Rattle.clean_logs.specs.Laws.{HasItsVariables};
 ghost use Rattle.sat_search.specs.Cores.{core_of};
+ghost use Rattle.std.specs.Prelude.{◌≡◌, ◌<◌, ◌≤◌, ◌^◌, length, IfOk};
 
 use arc_base::Memory;
 use arc_base::limits::VARIABLE_LIMIT;

@@ -1,13 +1,13 @@
 //! Which arcs of the pair are routed to a prefix, where r1 asks a route list that denies another
 //! prefix, or none.
-ghost use Rattle.std.specs.Prelude.{◌≡◌, ◌≤◌, ◌<◌, ℕ, IsTrue, IsNone, IfSome, IsSomeAnd};
-ghost use Rattle.std.specs.Prelude.{IsFalse, false, slice_index_or, All};
 ghost use Rattle.cnf_types.specs.Literals.{literal};
-ghost use Rattle.sat_core.specs.Trails.{is_on, clause_at, IsFalsified, IsOf};
 ghost use Rattle.sat_core.specs.Rest.{IsAtRest};
 ghost use Rattle.sat_core.specs.States.{IsSound};
+ghost use Rattle.sat_core.specs.Trails.{is_on, clause_at, IsFalsified, IsOf};
 ghost use Rattle.sat_search.specs.Orders.{IsOrder, IsMostActive, HoldsUnset, is_set};
 ghost use Rattle.sat_search.specs.Orders.{KeepsClauses, KeepsTrue};
+ghost use Rattle.std.specs.Prelude.{◌≡◌, ◌≤◌, ◌<◌, ℕ, IsTrue, IsNone, IfSome, IsSomeAnd};
+ghost use Rattle.std.specs.Prelude.{IsFalse, false, slice_index_or, All};
 
 use crate::order::Order;
 use cnf_types::Lit;

@@ -1,18 +1,18 @@
 //! What a search keeps between its conflicts, and what it does at one: conflict analysis, and the
 //! step back to the level where the lemma implies a literal.
-ghost use Rattle.std.specs.Prelude.{◌≡◌, ◌≢◌, ◌+◌, ◌*◌, ◌≤◌, ◌<◌, ◌-◌, ◌^◌, All, AllPairs, length};
-ghost use Rattle.std.specs.Prelude.{IsSomeAnd, IfOk, OnOk, OnErr, IsTrue, ◌==◌, ◌||◌, ◌⊎◌};
 ghost use Rattle.proof_log.specs.declared.steps.Log.{Log};
-ghost use Rattle.sat_core.specs.Trails.{clause_at, IsOf, IsFalsified};
 ghost use Rattle.sat_core.specs.States.{IsSound};
-ghost use Rattle.sat_search.specs.Live.{clause_in};
-ghost use Rattle.sat_search.specs.Learners.{IsReady};
-ghost use Rattle.sat_search.specs.Dropping.{Drops, HalvesDroppable, WaitsAgain};
-ghost use Rattle.sat_search.specs.DropSteps.{after_one};
-ghost use Rattle.sat_search.specs.Orders.{IsOrder, IsFresh, HoldsUnset};
+ghost use Rattle.sat_core.specs.Trails.{clause_at, IsOf, IsFalsified};
 ghost use Rattle.sat_search.specs.Costs.{Rise};
+ghost use Rattle.sat_search.specs.DropSteps.{after_one};
+ghost use Rattle.sat_search.specs.Dropping.{Drops, HalvesDroppable, WaitsAgain};
+ghost use Rattle.sat_search.specs.Learners.{IsReady};
+ghost use Rattle.sat_search.specs.Live.{clause_in};
+ghost use Rattle.sat_search.specs.Orders.{IsOrder, IsFresh, HoldsUnset};
 ghost use Rattle.sat_search.specs.Restarting.{after_conflict, ends_gap};
 ghost use Rattle.sat_search.specs.Searches.{Gains, IsLearnt, Teaches};
+ghost use Rattle.std.specs.Prelude.{◌≡◌, ◌≢◌, ◌+◌, ◌*◌, ◌≤◌, ◌<◌, ◌-◌, ◌^◌, All, AllPairs, length};
+ghost use Rattle.std.specs.Prelude.{IsSomeAnd, IfOk, OnOk, OnErr, IsTrue, ◌==◌, ◌||◌, ◌⊎◌};
 
 use crate::lemmas::Lemmas;
 use crate::lesson::{Lesson, level_of_false};

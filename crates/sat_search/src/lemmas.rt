@@ -1,20 +1,20 @@
 //! The lemmas of a log, and when and which of them are dropped. A search with fewer lemmas looks at
 //! fewer clauses; those that join few levels, or were used lately, are worth most. Which are
 //! dropped changes nothing but speed.
+ghost use Rattle.sat_core.specs.Forgotten.{IsNoReason};
+ghost use Rattle.sat_core.specs.Trails.{clause_at, id_at};
+ghost use Rattle.sat_search.specs.Costs.{cost_of, costing, counts, droppable, is_as_much, one_if};
+ghost use Rattle.sat_search.specs.Costs.{may_be_named, AreSetToo, is_hint_of, uses, Rise};
+ghost use Rattle.sat_search.specs.DropSteps.{after_one, gap_after, is_long};
+ghost use Rattle.sat_search.specs.Dropping.{AreLemmas, Drops, Forgets, ForgetsMore, sizes};
+ghost use Rattle.sat_search.specs.Dropping.{old_lemmas, HalvesDroppable, WaitsAgain};
+ghost use Rattle.sat_search.specs.Live.{clause_in};
+ghost use Rattle.std.specs.List.{list_any};
+ghost use Rattle.std.specs.List.Sorted.{IsNonDecreasing};
 ghost use Rattle.std.specs.Prelude.{◌≡◌, ◌≢◌, ◌+◌, ◌-◌, ◌*◌, ◌<◌, ◌≤◌, ◌^◌, ◌∷◌, ◌++◌, []};
 ghost use Rattle.std.specs.Prelude.{length, take, All, AllPairs, Contains, Some, IsSome, IfSome};
 ghost use Rattle.std.specs.Prelude.{IsSomeAnd, IfOk, OnOk, OnErr, slice_get, ◌==◌, ◌/◌, ℕ};
 ghost use Rattle.std.specs.Prelude.{count_by, sum_by, slice_index_or, true};
-ghost use Rattle.std.specs.List.{list_any};
-ghost use Rattle.std.specs.List.Sorted.{IsNonDecreasing};
-ghost use Rattle.sat_core.specs.Trails.{clause_at, id_at};
-ghost use Rattle.sat_core.specs.Forgotten.{IsNoReason};
-ghost use Rattle.sat_search.specs.Dropping.{AreLemmas, Drops, Forgets, ForgetsMore, sizes};
-ghost use Rattle.sat_search.specs.Dropping.{old_lemmas, HalvesDroppable, WaitsAgain};
-ghost use Rattle.sat_search.specs.DropSteps.{after_one, gap_after, is_long};
-ghost use Rattle.sat_search.specs.Costs.{cost_of, costing, counts, droppable, is_as_much, one_if};
-ghost use Rattle.sat_search.specs.Costs.{may_be_named, AreSetToo, is_hint_of, uses, Rise};
-ghost use Rattle.sat_search.specs.Live.{clause_in};
 
 use arc_base::{List, Memory};
 use clean_logs::KEPT_LEMMAS;

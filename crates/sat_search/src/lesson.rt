@@ -1,17 +1,17 @@
 //! Conflict analysis: the lemma of a conflict, or learnt clause. Reasons are resolved away from the
 //! end of the trail on, up to the first unique implication point; then literals that the others
 //! imply are left out. The cost is that of the clauses that are resolved.
+ghost use Rattle.cnf_types.specs.Literals.{negated};
+ghost use Rattle.cnf_types.specs.declared.literal.Lit.{Lit};
+ghost use Rattle.sat_core.specs.States.{IsSound};
+ghost use Rattle.sat_core.specs.Trails.{is_on, clause_at, IsOf, IsFalsified};
+ghost use Rattle.sat_search.specs.Live.{clause_in};
+ghost use Rattle.sat_search.specs.Passes.{open_in, is_marked, resolving_reason, IsCleared};
+ghost use Rattle.sat_search.specs.Passes.{IsJoined, IsPass, HasRoom, hint_at};
+ghost use Rattle.sat_search.specs.Searches.{IsLearnt};
 ghost use Rattle.std.specs.Prelude.{◌≡◌, ◌+◌, ◌*◌, ◌<◌, ◌≤◌, ◌^◌, ◌||◌, ◌==◌, if◌then◌else◌, ◌∷◌};
 ghost use Rattle.std.specs.Prelude.{◌++◌, [], length, reverse, All, IsSomeAnd, IfOk, IfSome, OnOk};
 ghost use Rattle.std.specs.Prelude.{Some, option_to_list, false};
-ghost use Rattle.cnf_types.specs.Literals.{negated};
-ghost use Rattle.cnf_types.specs.declared.literal.Lit.{Lit};
-ghost use Rattle.sat_core.specs.Trails.{is_on, clause_at, IsOf, IsFalsified};
-ghost use Rattle.sat_core.specs.States.{IsSound};
-ghost use Rattle.sat_search.specs.Passes.{open_in, is_marked, resolving_reason, IsCleared};
-ghost use Rattle.sat_search.specs.Passes.{IsJoined, IsPass, HasRoom, hint_at};
-ghost use Rattle.sat_search.specs.Live.{clause_in};
-ghost use Rattle.sat_search.specs.Searches.{IsLearnt};
 
 use crate::marks::Marks;
 use crate::sparing::Spares;

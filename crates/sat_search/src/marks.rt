@@ -1,8 +1,8 @@
 //! Marks on literals.
-ghost use Rattle.std.specs.Prelude.{◌≡◌, ◌+◌, ◌*◌, ◌<◌, ◌^◌, ◌||◌, false, length, IfOk};
 ghost use Rattle.cnf_types.specs.declared.literal.Lit.{Lit};
 ghost use Rattle.proof_check.specs.Propagation.{same};
 ghost use Rattle.sat_search.specs.Passes.{is_marked, IsCleared};
+ghost use Rattle.std.specs.Prelude.{◌≡◌, ◌+◌, ◌*◌, ◌<◌, ◌^◌, ◌||◌, false, length, IfOk};
 
 use arc_base::Memory;
 use cnf_types::Lit;

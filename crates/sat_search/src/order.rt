@@ -1,11 +1,11 @@
 //! In which order variables are decided, and how: those that conflicts met most come first, late
 //! conflicts counting more (their activity), each with the value that it had last (phase saving).
 //! That an answer is right does not rest on it, only how soon there is one.
-ghost use Rattle.std.specs.Prelude.{◌≡◌, ◌<◌, ◌≤◌, ◌^◌, All, IfOk};
-ghost use Rattle.sat_core.specs.Trails.{IsOf};
 ghost use Rattle.sat_core.specs.States.{at_level};
+ghost use Rattle.sat_core.specs.Trails.{IsOf};
 ghost use Rattle.sat_search.specs.Orders.{IsOrder, IsScaled, scaled, step_after, met_once, met_all};
 ghost use Rattle.sat_search.specs.Orders.{AreActive, IsFresh, IsReleased, HoldsUnset, above};
+ghost use Rattle.std.specs.Prelude.{◌≡◌, ◌<◌, ◌≤◌, ◌^◌, All, IfOk};
 ghost use Rattle.variable_heap.specs.Heaps.{HaveSame};
 
 use arc_base::Memory;

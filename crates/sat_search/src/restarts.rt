@@ -1,7 +1,7 @@
 //! Restarts: when a search goes back to level 0 and begins its decisions anew. Nothing but speed
 //! depends on it.
-ghost use Rattle.std.specs.Prelude.{◌≡◌};
 ghost use Rattle.sat_search.specs.Restarting.{at_first, ends_gap, after_conflict};
+ghost use Rattle.std.specs.Prelude.{◌≡◌};
 
 /// The conflicts before the first restart.
 const FIRST: u64 = 100;

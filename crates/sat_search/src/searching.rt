@@ -1,19 +1,19 @@
 //! The search.
-ghost use Rattle.std.specs.Prelude.{◌≡◌, ◌+◌, ◌≤◌, ◌<◌, ◌^◌, ◌++◌, ◌↔◌, ℕ, Option, List as Items};
-ghost use Rattle.std.specs.Prelude.{[], All, length, IsTrue, IsFalse, IfOk};
-ghost use Rattle.std.specs.List.{list_any};
-ghost use Rattle.cnf_types.specs.declared.literal.Lit.{Lit};
-ghost use Rattle.sat_core.specs.Trails.{IsOf};
+ghost use Rattle.clean_logs.specs.CleanLogs.{IsClean, IsSpent, added_by, dropped_by, additions};
 ghost use Rattle.cnf_types.specs.declared.clauses.Formula.{Formula};
-ghost use Rattle.proof_log.specs.Texts.{HasLine};
+ghost use Rattle.cnf_types.specs.declared.literal.Lit.{Lit};
 ghost use Rattle.proof_check.specs.Knowledge.{Knowledge, start};
 ghost use Rattle.proof_check.specs.Logs.{adds_empty, after_all, IsAccepted, IsRefuting};
-ghost use Rattle.clean_logs.specs.CleanLogs.{IsClean, IsSpent, added_by, dropped_by, additions};
+ghost use Rattle.proof_log.specs.Texts.{HasLine};
+ghost use Rattle.sat_core.specs.Trails.{IsOf};
 ghost use Rattle.sat_search.specs.DropSteps.{wait_of, DropsInTime, DropsHalf};
 ghost use Rattle.sat_search.specs.Live.{clause_in};
 ghost use Rattle.sat_search.specs.Searches.{appended, ends_empty, live_after};
 ghost use Rattle.sat_search.specs.Searches.{AddsFrom, DropsOld, HasLiveHints, IfModel, IsModelOf};
 ghost use Rattle.sat_search.specs.Searches.{KeepsOthers, Knows, Searched};
+ghost use Rattle.std.specs.List.{list_any};
+ghost use Rattle.std.specs.Prelude.{◌≡◌, ◌+◌, ◌≤◌, ◌<◌, ◌^◌, ◌++◌, ◌↔◌, ℕ, Option, List as Items};
+ghost use Rattle.std.specs.Prelude.{[], All, length, IsTrue, IsFalse, IfOk};
 
 use crate::counting::additions;
 use crate::found::Found;

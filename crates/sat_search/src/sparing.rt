@@ -2,9 +2,9 @@
 //! reasons of their own, to literals of the lemma and to such as are false since level 0. Nothing
 //! but speed depends on it, so its contracts say nothing of the answer, and each look-up allows for
 //! a variable that is not there.
-ghost use Rattle.std.specs.Prelude.{◌<◌, ◌^◌};
 ghost use Rattle.sat_core.specs.States.{IsSound};
 ghost use Rattle.sat_search.specs.Passes.{HasRoom};
+ghost use Rattle.std.specs.Prelude.{◌<◌, ◌^◌};
 
 use crate::lesson::level_of_false;
 use crate::marks::Marks;

@@ -1,10 +1,10 @@
 //! The values that a trail gives all variables.
-ghost use Rattle.std.specs.Prelude.{◌≡◌, ◌≤◌, ◌<◌, ◌-◌, ℕ, IsTrue, IfOk, false, true};
-ghost use Rattle.sat_core.specs.Trails.{is_on, IsOf};
 ghost use Rattle.sat_core.specs.Rest.{IsAtRest};
 ghost use Rattle.sat_core.specs.States.{IsSound};
+ghost use Rattle.sat_core.specs.Trails.{is_on, IsOf};
 ghost use Rattle.sat_search.specs.Orders.{is_set};
 ghost use Rattle.sat_search.specs.Searches.{IsModelOf};
+ghost use Rattle.std.specs.Prelude.{◌≡◌, ◌≤◌, ◌<◌, ◌-◌, ℕ, IsTrue, IfOk, false, true};
 
 use arc_base::{List, Memory};
 use cnf_types::Lit;

@@ -9,7 +9,8 @@ use Rattle.std.proofs.lemmas.List.Elements.{Contains-append_left, Contains-appen
 use Rattle.std.proofs.lemmas.Map.Made.{is_member-Decides}
 use Rattle.std.proofs.lemmas.List.Kept.{AllPairs-filter, AllPairs-cons}
 use Rattle.std.proofs.lemmas.List.Sums.{sum_by-cons}
-use Rattle.arc_base.proofs.Items.{Contains-head, Contains-tail, Contains-none, Contains-cases, Contains-filter, from_filter, Contains-piece, from_piece, AllPairs-rest, AllPairs-first, AllPairs-none, All-from}
+use Rattle.arc_base.proofs.Items.{Contains-head, Contains-tail, Contains-none, Contains-cases, Contains-filter, from_filter}
+use Rattle.arc_base.proofs.Items.{Contains-piece, from_piece, AllPairs-rest, AllPairs-first, AllPairs-none, All-from}
 use Rattle.net_model.specs.declared.services.Service.{Service}
 use Rattle.net_model.specs.Services.{Serves, services}
 use Rattle.net_model.proofs.ServiceRanges.{bounds, serve}

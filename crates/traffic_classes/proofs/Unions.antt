@@ -28,7 +28,8 @@ use Rattle.traffic_classes.specs.Classes.{AreClasses, CountsMore, told}
 use Rattle.traffic_classes.specs.Parts.{MakeUp, HasPacket, IsClassOf}
 use Rattle.traffic_classes.specs.AllClasses.{is_same, with_class, each_once, AreAllClasses, FirstHaveMore, lies_off}
 use Rattle.traffic_classes.specs.Laws.{HaveOneListOfClasses, AllClassesTellApart}
-use Rattle.arc_base.proofs.Items.{Contains-head, Contains-tail, Contains-none, Contains-cases, Contains-filter, from_filter, Contains-piece, from_piece, All-from, AllPairs-append, AllPairs-among, AllPairs-none}
+use Rattle.arc_base.proofs.Items.{Contains-head, Contains-tail, Contains-none, Contains-cases, Contains-filter, from_filter}
+use Rattle.arc_base.proofs.Items.{Contains-piece, from_piece, All-from, AllPairs-append, AllPairs-among, AllPairs-none}
 use Rattle.traffic_classes.proofs.ServiceCuts.{inside_ends, ends_inside}
 use Rattle.traffic_classes.proofs.Sameness.{is_same-Decides, is_same-IsEquivalence, alike}
 use Rattle.traffic_classes.proofs.MakingUp.{make_up, disjoint_classes, equal_or_disjoint, one_list, some_list}

@@ -1,11 +1,11 @@
 //! The classes of one policy, and those of all together.
-ghost use Rattle.std.specs.Prelude.{◌<◌, ◌≤◌, List as Items, length, slice_get, IfOk, IfErr};
-ghost use Rattle.std.specs.Prelude.{IfSome};
+ghost use Rattle.net_model.specs.Packets.{subject};
 ghost use Rattle.net_model.specs.declared.policies.Policy.{Policy as AnyPolicy};
 ghost use Rattle.net_model.specs.declared.rows.Network.{Network as AnyNetwork};
-ghost use Rattle.net_model.specs.Packets.{subject};
-ghost use Rattle.traffic_classes.specs.Classes.{AreMarks, AreClasses, HasClasses, CountsMore};
+ghost use Rattle.std.specs.Prelude.{◌<◌, ◌≤◌, List as Items, length, slice_get, IfOk, IfErr};
+ghost use Rattle.std.specs.Prelude.{IfSome};
 ghost use Rattle.traffic_classes.specs.AllClasses.{AreAllClasses, FirstHaveMore};
+ghost use Rattle.traffic_classes.specs.Classes.{AreMarks, AreClasses, HasClasses, CountsMore};
 ghost use Rattle.traffic_classes.specs.Parts.{MakeUp, TellApart};
 
 use crate::fault::ClassFault;

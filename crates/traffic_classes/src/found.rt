@@ -1,9 +1,9 @@
 //! Gathering the classes of several policies, each once.
 ghost use Rattle.std.specs.Prelude.{◌≡◌, ◌+◌, ◌*◌, ◌<◌, ◌≤◌, [], fold, length, OnOk, IfErr};
 ghost use Rattle.std.specs.Prelude.{count_by};
+ghost use Rattle.traffic_classes.specs.AllClasses.{key_of, with_class, lies_off, IsIndexed};
 ghost use Rattle.traffic_classes.specs.Classes.{classes_between, classes_from, all_triples, told};
 ghost use Rattle.traffic_classes.specs.Classes.{CountsMore};
-ghost use Rattle.traffic_classes.specs.AllClasses.{key_of, with_class, lies_off, IsIndexed};
 
 use crate::fault::ClassFault;
 use crate::policy_leaves::Leaves;

@@ -1,10 +1,10 @@
 //! Collecting the marks of a network and its policies.
-ghost use Rattle.std.specs.Prelude.{◌≡◌, ◌++◌, ◌<◌, ◌^◌, map, IfOk, OnOk};
-ghost use Rattle.std.specs.List.{flat_map};
-ghost use Rattle.traffic_classes.specs.Classes.{AreMarks, marks_of, whole_protocol, source_marks};
-ghost use Rattle.traffic_classes.specs.Classes.{destination_marks, service_marks};
 ghost use Rattle.net_model.specs.declared.lists.PacketEntry.{PacketEntry};
 ghost use Rattle.net_model.specs.declared.policies.Policy.{Policy};
+ghost use Rattle.std.specs.List.{flat_map};
+ghost use Rattle.std.specs.Prelude.{◌≡◌, ◌++◌, ◌<◌, ◌^◌, map, IfOk, OnOk};
+ghost use Rattle.traffic_classes.specs.Classes.{AreMarks, marks_of, whole_protocol, source_marks};
+ghost use Rattle.traffic_classes.specs.Classes.{destination_marks, service_marks};
 
 use crate::marks::Marks;
 use crate::sorted_marks::sorted;

@@ -1,7 +1,7 @@
 //! Halving a prefix down to its leaves.
 ghost use Rattle.std.specs.Prelude.{◌≡◌, ◌-◌, ◌^◌, ◌<◌, IfOk, OnOk};
-ghost use Rattle.traffic_classes.specs.Leaves.{is_strictly_inside, inner_marks, AreLeaves};
 ghost use Rattle.traffic_classes.specs.Halves.{IsLowerHalf, IsUpperHalf, AddsLeaves};
+ghost use Rattle.traffic_classes.specs.Leaves.{is_strictly_inside, inner_marks, AreLeaves};
 
 use arc_base::{List, Memory, Prefix};
 use std::alloc::Global;

@@ -1,11 +1,11 @@
 //! Laws over the definitions alone: each is the contract of a function that does nothing.
 ghost use Rattle.traffic_classes.specs.Halves.{UnsplitIsLeaf, HalvesHaveLeaves};
-ghost use Rattle.traffic_classes.specs.ServiceLeaves.{UncutIsLeaf, PartsHaveLeaves};
-ghost use Rattle.traffic_classes.specs.ServiceLeaves.{HasOneListOfServiceLeaves};
 ghost use Rattle.traffic_classes.specs.Laws.{HasOneListOfLeaves, HasOneListOfClasses};
 ghost use Rattle.traffic_classes.specs.Laws.{ClassesMakeUp, ClassesAreEqualOrDisjoint};
 ghost use Rattle.traffic_classes.specs.Laws.{HaveOneListOfClasses, AllClassesTellApart};
 ghost use Rattle.traffic_classes.specs.Laws.{EachHasNoMoreClasses};
+ghost use Rattle.traffic_classes.specs.ServiceLeaves.{UncutIsLeaf, PartsHaveLeaves};
+ghost use Rattle.traffic_classes.specs.ServiceLeaves.{HasOneListOfServiceLeaves};
 
 /// Halving gives the leaves: a prefix that is split has those of its halves, and any other is its
 /// own one leaf.

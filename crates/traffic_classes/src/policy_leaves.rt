@@ -1,9 +1,9 @@
 //! The leaves of a policy's two prefixes and of its services, and their triples.
 ghost use Rattle.std.specs.Prelude.{◌≡◌, ◌+◌, ◌*◌, ◌≤◌, ◌++◌, length, IfOk, OnOk, IfErr};
-ghost use Rattle.traffic_classes.specs.Leaves.{AreLeaves};
-ghost use Rattle.traffic_classes.specs.ServiceLeaves.{AreServiceLeaves};
 ghost use Rattle.traffic_classes.specs.Classes.{classes_between, classes_from, all_triples, told};
 ghost use Rattle.traffic_classes.specs.Classes.{CountsMore};
+ghost use Rattle.traffic_classes.specs.Leaves.{AreLeaves};
+ghost use Rattle.traffic_classes.specs.ServiceLeaves.{AreServiceLeaves};
 
 use crate::fault::ClassFault;
 use crate::halving::leaves_of;

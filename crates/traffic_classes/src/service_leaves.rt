@@ -1,6 +1,6 @@
 //! Cutting a range of services into its leaves.
-ghost use Rattle.std.specs.Prelude.{◌≡◌, ℕ, ◌↔◌, ◌++◌, IfOk, OnOk, Contains};
 ghost use Rattle.std.specs.List.Sorted.{IsStrictlyIncreasing};
+ghost use Rattle.std.specs.Prelude.{◌≡◌, ℕ, ◌↔◌, ◌++◌, IfOk, OnOk, Contains};
 ghost use Rattle.traffic_classes.specs.ServiceLeaves.{IsCutAt, AreServiceLeaves};
 ghost use Rattle.traffic_classes.specs.ServiceParts.{inner_ends, RiseBetween, ArePartsBetween};
 

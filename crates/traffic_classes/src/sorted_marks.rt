@@ -1,8 +1,8 @@
 //! Marks by their first addresses, of which those inside a prefix are found by binary search.
-ghost use Rattle.std.specs.Prelude.{◌≡◌, ◌<◌, ◌≤◌, ◌+◌, Contains, IfOk, length};
-ghost use Rattle.std.specs.List.Sorted.{IsNonDecreasingBy, IsPartitionPoint};
 ghost use Rattle.arc_base.specs.Addresses.{Holds, size};
 ghost use Rattle.arc_base.specs.declared.prefix.Prefix.{Prefix as AnyPrefix};
+ghost use Rattle.std.specs.List.Sorted.{IsNonDecreasingBy, IsPartitionPoint};
+ghost use Rattle.std.specs.Prelude.{◌≡◌, ◌<◌, ◌≤◌, ◌+◌, Contains, IfOk, length};
 ghost use Rattle.traffic_classes.specs.SortedMarks.{AreSorted};
 
 use arc_base::{Memory, Prefix};

@@ -38,7 +38,8 @@ first-set activity vars v i j first =
           omega arith;
     }
 
-up-others : (f g : ℕ → ℕ) (n i j : ℕ) → IsExchange f g i j → IsAbove j i → f j ≤ f i → ((p c : ℕ) → IsAbove p c → c < n → c ≢ i → f c ≤ f p) → ((p c : ℕ) → IsAbove p i → IsAbove i c → c < n → f c ≤ f p) → (p c : ℕ) → IsAbove p c → c < n → c ≢ j → g c ≤ g p
+up-others : (f g : ℕ → ℕ) (n i j : ℕ) → IsExchange f g i j → IsAbove j i → f j ≤ f i → ((p c : ℕ) → IsAbove p c → c < n → c ≢ i → f c ≤ f p) →
+    ((p c : ℕ) → IsAbove p i → IsAbove i c → c < n → f c ≤ f p) → (p c : ℕ) → IsAbove p c → c < n → c ≢ j → g c ≤ g p
 up-others f g n i j e ji more others around p c pc within apart = elim (cases_eq c i) [
   | inl ci ↦
       let pj : p ≡ j = omega arith in
@@ -81,7 +82,8 @@ up-around f g n i j e ji inside others p c pj jc within =
     ]
 
 -- where a variable is at least as active as the one above it, it moves up
-pub order-up : (activity xs ys : List ℕ) (i j : ℕ) → length ys ≡ length xs → IsExchange (active_at activity xs) (active_at activity ys) i j → IsAbove j i → i < length xs → active_at activity xs j ≤ active_at activity xs i → IsOrderedButUp activity xs i → IsOrderedButUp activity ys j
+pub order-up : (activity xs ys : List ℕ) (i j : ℕ) → length ys ≡ length xs → IsExchange (active_at activity xs) (active_at activity ys) i j → IsAbove j i →
+    i < length xs → active_at activity xs j ≤ active_at activity xs i → IsOrderedButUp activity xs i → IsOrderedButUp activity ys j
 order-up activity xs ys i j size e ji inside more o =
     let f : ℕ → ℕ = active_at activity xs in
     let g : ℕ → ℕ = active_at activity ys in
@@ -90,7 +92,8 @@ order-up activity xs ys i j size e ji inside more o =
       around = λ p c pj jc within. up-around f g (length xs) i j e ji inside o.others p c pj jc (omega arith);
     }
 
-down-others : (f g : ℕ → ℕ) (n i j : ℕ) → IsExchange f g i j → IsAbove i j → f i ≤ f j → ((c : ℕ) → IsAbove i c → c < n → f c ≤ f j) → ((p c : ℕ) → IsAbove p c → c < n → p ≢ i → f c ≤ f p) → ((p c : ℕ) → IsAbove p i → IsAbove i c → c < n → f c ≤ f p) → j < n → (p c : ℕ) → IsAbove p c → c < n → p ≢ j → g c ≤ g p
+down-others : (f g : ℕ → ℕ) (n i j : ℕ) → IsExchange f g i j → IsAbove i j → f i ≤ f j → ((c : ℕ) → IsAbove i c → c < n → f c ≤ f j) →
+    ((p c : ℕ) → IsAbove p c → c < n → p ≢ i → f c ≤ f p) → ((p c : ℕ) → IsAbove p i → IsAbove i c → c < n → f c ≤ f p) → j < n → (p c : ℕ) → IsAbove p c → c < n → p ≢ j → g c ≤ g p
 down-others f g n i j e ij more most others around inside p c pc within apart = elim (cases_eq p i) [
   | inl pi ↦
       let gp : g p ≡ f j = ap g pi ∙ e.low in
@@ -126,7 +129,8 @@ down-around f g n i j e ij others p c pj jc within =
     omega arith
 
 -- where a variable is at most as active as the first below it, it moves down
-pub order-down : (activity xs ys : List ℕ) (i j : ℕ) → length ys ≡ length xs → IsExchange (active_at activity xs) (active_at activity ys) i j → IsFirstBelow activity xs i j → active_at activity xs i ≤ active_at activity xs j → IsOrderedButDown activity xs i → IsOrderedButDown activity ys j
+pub order-down : (activity xs ys : List ℕ) (i j : ℕ) → length ys ≡ length xs → IsExchange (active_at activity xs) (active_at activity ys) i j →
+    IsFirstBelow activity xs i j → active_at activity xs i ≤ active_at activity xs j → IsOrderedButDown activity xs i → IsOrderedButDown activity ys j
 order-down activity xs ys i j size e first more o =
     let f : ℕ → ℕ = active_at activity xs in
     let g : ℕ → ℕ = active_at activity ys in

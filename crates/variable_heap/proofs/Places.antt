@@ -20,7 +20,9 @@ stands-once xs ps i j inverse i_in j_in same =
     let e : get_or ps (get_or xs i 0) 0 ≡ get_or ps (get_or xs j 0) 0 = ap (λ (v : ℕ). get_or ps v 0) same in
     omega arith
 
-pub inverse-exchange : (xs ys ps qs : List ℕ) (i j : ℕ) → length ys ≡ length xs → IsExchange (λ k. get_or xs k 0) (λ k. get_or ys k 0) i j → i < length xs → j < length xs → get_or qs (get_or xs j 0) 0 ≡ i + 1 → get_or qs (get_or xs i 0) 0 ≡ j + 1 → ((v : ℕ) → v ≢ get_or xs i 0 → v ≢ get_or xs j 0 → get_or qs v 0 ≡ get_or ps v 0) → IsInverse xs ps → IsInverse ys qs
+pub inverse-exchange : (xs ys ps qs : List ℕ) (i j : ℕ) → length ys ≡ length xs → IsExchange (λ k. get_or xs k 0) (λ k. get_or ys k 0) i j → i < length xs →
+    j < length xs → get_or qs (get_or xs j 0) 0 ≡ i + 1 → get_or qs (get_or xs i 0) 0 ≡ j + 1 →
+    ((v : ℕ) → v ≢ get_or xs i 0 → v ≢ get_or xs j 0 → get_or qs v 0 ≡ get_or ps v 0) → IsInverse xs ps → IsInverse ys qs
 inverse-exchange xs ys ps qs i j size e i_in j_in low high rest o = record {
   placed = λ k k_in. elim (cases_eq k i) [
     | inl ki ↦ ap (λ (k : ℕ). get_or qs (get_or ys k 0) 0) ki ∙ ap (λ (v : ℕ). get_or qs v 0) e.low ∙ low ∙ ap (λ (k : ℕ). k + 1) (sym ki)

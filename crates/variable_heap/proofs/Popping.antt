@@ -87,7 +87,8 @@ popped-others ys ps last p w from_first = elim (cases_eq w last) [
       (λ h. same ∙ h, λ h. sym same ∙ h)
 ]
 
-popped-at : (xs ys ps : List ℕ) (last k : ℕ) → IsLonger xs ys last → IsInverse xs ps → ArePopped ys ps last → k ≢ 0 → k < length ys → get_or (popped_places ys ps last) (get_or (set ys 0 last) k 0) 0 ≡ k + 1
+popped-at : (xs ys ps : List ℕ) (last k : ℕ) → IsLonger xs ys last → IsInverse xs ps → ArePopped ys ps last → k ≢ 0 → k < length ys →
+    get_or (popped_places ys ps last) (get_or (set ys 0 last) k 0) 0 ≡ k + 1
 popped-at xs ys ps last k l o p under within =
     let size = l.size in
     let qs = popped_places ys ps last in

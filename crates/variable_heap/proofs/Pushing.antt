@@ -68,7 +68,8 @@ pub set-there : (xs : List ℕ) (k v : ℕ) → get_or xs k 0 ≡ v → set xs k
 set-there xs k v at = ap (λ (w : ℕ). set xs k w) (sym at) ∙ set-get_or xs k 0
 
 -- other variables are as active as before
-as-before : (before after xs ps : List ℕ) (v k j : ℕ) → IsInverse xs ps → IsRaised before after v → get_or xs k 0 ≡ v → k < length xs → j < length xs → j ≢ k → active_at after xs j ≡ active_at before xs j
+as-before : (before after xs ps : List ℕ) (v k j : ℕ) → IsInverse xs ps → IsRaised before after v → get_or xs k 0 ≡ v → k < length xs → j < length xs → j ≢ k →
+    active_at after xs j ≡ active_at before xs j
 as-before before after xs ps v k j o raised at within j_in ne =
     raised.others (get_or xs j 0) (λ e. ne (stands-once xs ps j k o j_in within (e ∙ sym at)))
 

@@ -28,11 +28,13 @@ as-placed xs ps ds qs v n put = ap (λ (zs : List ℕ). set zs v (n + 1)) put.pl
 
 pub put-inverse : (xs ps ds qs : List ℕ) (v n : ℕ) → IsPut xs ps ds qs v n → IsInverse (set ds n v) (set qs v (n + 1))
 put-inverse xs ps ds qs v n put =
-    subst (λ (zs : List ℕ). IsInverse zs (set qs v (n + 1))) (sym (as-pushed xs ps ds qs v n put)) (subst (λ (zs : List ℕ). IsInverse (xs ++ v ∷ []) zs) (sym (as-placed xs ps ds qs v n put)) (inverse-pushed xs ps v put.old put.none put.below))
+    subst (λ (zs : List ℕ). IsInverse zs (set qs v (n + 1))) (sym (as-pushed xs ps ds qs v n put)) (subst (λ (zs : List ℕ). IsInverse (xs ++ v ∷ []) zs)
+    (sym (as-placed xs ps ds qs v n put)) (inverse-pushed xs ps v put.old put.none put.below))
 
 pub put-order : (activity xs ps ds qs : List ℕ) (v n : ℕ) → IsPut xs ps ds qs v n → IsOrdered activity xs → IsOrderedButUp activity (set ds n v) n
 put-order activity xs ps ds qs v n put o =
-    subst (λ (zs : List ℕ). IsOrderedButUp activity zs n) (sym (as-pushed xs ps ds qs v n put)) (subst (λ (k : ℕ). IsOrderedButUp activity (xs ++ v ∷ []) k) (sym put.end) (order-pushed activity xs v o))
+    subst (λ (zs : List ℕ). IsOrderedButUp activity zs n) (sym (as-pushed xs ps ds qs v n put)) (subst (λ (k : ℕ). IsOrderedButUp activity (xs ++ v ∷ []) k)
+    (sym put.end) (order-pushed activity xs v o))
 
 put-same : (xs ps ds qs rs : List ℕ) (v n : ℕ) → IsPut xs ps ds qs v n → HaveSamePlaced (set qs v (n + 1)) rs → HaveSamePlaced (set ps v (length xs + 1)) rs
 put-same xs ps ds qs rs v n put same = subst (λ (zs : List ℕ). HaveSamePlaced zs rs) (as-placed xs ps ds qs v n put) same
@@ -73,4 +75,5 @@ there-same xs ps ds qs rs v n there given = subst (λ (zs : List ℕ). HaveSameP
 
 pub there-order : (before after xs ps ds qs : List ℕ) (v n : ℕ) → IsThere xs ps ds qs v n → IsRaised before after v → IsOrdered before xs → IsOrderedButUp after (set ds n v) n
 there-order before after xs ps ds qs v n there raised o =
-    subst (λ (zs : List ℕ). IsOrderedButUp after zs n) (sym (there-vars xs ps ds qs v n there)) (order-raised before after xs ps v n there.old raised (there.old.stands v n there.at) (there.old.within v n there.at) o)
+    subst (λ (zs : List ℕ). IsOrderedButUp after zs n) (sym (there-vars xs ps ds qs v n there)) (order-raised before after xs ps v n there.old raised
+    (there.old.stands v n there.at) (there.old.within v n there.at) o)

@@ -32,7 +32,8 @@ pub zero-out : (xs ps ws rs : List ℕ) (first : ℕ) → IsOut xs ps ws rs firs
 zero-out xs ps ws rs first out = (out.others 0 (λ e. not-zero xs ps ws rs first out (sym e))).0 out.zero
 
 -- the variable was one of the most active ones
-pub taken : (activity xs ps ws rs : List ℕ) (first : ℕ) (new : Heap) → IsOut xs ps ws rs first → IsOrdered activity xs → new.vars ≡ ws → length ws + 1 ≡ length xs → IsTaken activity (record { vars = xs; limit = length ps }) new first
+pub taken : (activity xs ps ws rs : List ℕ) (first : ℕ) (new : Heap) → IsOut xs ps ws rs first → IsOrdered activity xs → new.vars ≡ ws →
+    length ws + 1 ≡ length xs → IsTaken activity (record { vars = xs; limit = length ps }) new first
 taken activity xs ps ws rs first new out ordered is fewer =
     let some = out.some in
     let at = first-at xs ps ws rs first out in
@@ -64,7 +65,8 @@ out-last xs ys ps last l none o zero =
     }
 
 -- the places when the last variable sinks from the top
-pub sink-start : (xs ys ps ds qs : List ℕ) (last first : ℕ) → IsLonger xs ys last → 0 < length ys → IsInverse xs ps → first ≡ get_or ys 0 0 → ds ≡ ys → qs ≡ set ps first 0 → IsInverse (set ds 0 last) (set qs last 1)
+pub sink-start : (xs ys ps ds qs : List ℕ) (last first : ℕ) → IsLonger xs ys last → 0 < length ys → IsInverse xs ps → first ≡ get_or ys 0 0 → ds ≡ ys →
+    qs ≡ set ps first 0 → IsInverse (set ds 0 last) (set qs last 1)
 sink-start xs ys ps ds qs last first l some o f d q =
     let at : qs ≡ set ps (get_or ys 0 0) 0 = q ∙ ap (λ (w : ℕ). set ps w 0) f in
     subst (λ (zs : List ℕ). IsInverse (set zs 0 last) (set qs last 1)) (sym d) (subst (λ (zs : List ℕ). IsInverse (set ys 0 last) (set zs last 1)) (sym at) (inverse-popped xs ys ps last l some o))
@@ -72,7 +74,8 @@ sink-start xs ys ps ds qs last first l some o f d q =
 pub sink-order : (activity xs ys ds : List ℕ) (last : ℕ) → IsLonger xs ys last → ds ≡ ys → IsOrdered activity xs → IsOrderedButDown activity (set ds 0 last) 0
 sink-order activity xs ys ds last l d o = subst (λ (zs : List ℕ). IsOrderedButDown activity (set zs 0 last) 0) (sym d) (order-popped activity xs ys last l o)
 
-pub out-first : (xs ys ps qs ws rs : List ℕ) (last first : ℕ) → IsLonger xs ys last → 0 < length ys → IsInverse xs ps → get_or ps 0 0 ≡ 0 → first ≡ get_or ys 0 0 → qs ≡ set ps first 0 → IsInverse ws rs → HaveSamePlaced (set qs last 1) rs → IsOut xs ps ws rs first
+pub out-first : (xs ys ps qs ws rs : List ℕ) (last first : ℕ) → IsLonger xs ys last → 0 < length ys → IsInverse xs ps → get_or ps 0 0 ≡ 0 →
+    first ≡ get_or ys 0 0 → qs ≡ set ps first 0 → IsInverse ws rs → HaveSamePlaced (set qs last 1) rs → IsOut xs ps ws rs first
 out-first xs ys ps qs ws rs last first l some o zero f q new given =
     let size = l.size in
     let p : ArePopped ys ps last = popped xs ys ps last l some o in
@@ -89,7 +92,8 @@ out-first xs ys ps qs ws rs last first l some o zero f q new given =
     }
 
 -- what is kept true of the fields
-pub kept : (t u : Inside) (ws rs : List ℕ) → IsKept t → u.vars.items ≡ ws → u.places.items ≡ rs → IsInverse ws rs → get_or rs 0 0 ≡ 0 → length rs ≡ length t.places.items → vec_capacity t.vars ≤ vec_capacity u.vars → IsKept u
+pub kept : (t u : Inside) (ws rs : List ℕ) → IsKept t → u.vars.items ≡ ws → u.places.items ≡ rs → IsInverse ws rs → get_or rs 0 0 ≡ 0 →
+    length rs ≡ length t.places.items → vec_capacity t.vars ≤ vec_capacity u.vars → IsKept u
 kept t u ws rs old vars places inverse zero size room =
     let was = old.room in
     let few = old.few in

@@ -33,7 +33,8 @@ same-held xs ys ps qs old new same w = (
 )
 
 -- where one variable lost its place, the others stand in the heap
-pub others-held : (xs ys ps qs : List ℕ) (v : ℕ) → IsInverse xs ps → IsInverse ys qs → get_or qs v 0 ≡ 0 → ((w : ℕ) → w ≢ v → (get_or ps w 0 ≡ 0) ↔ (get_or qs w 0 ≡ 0)) → (w : ℕ) → Contains ys w ↔ (Contains xs w × (w ≢ v))
+pub others-held : (xs ys ps qs : List ℕ) (v : ℕ) → IsInverse xs ps → IsInverse ys qs → get_or qs v 0 ≡ 0 →
+    ((w : ℕ) → w ≢ v → (get_or ps w 0 ≡ 0) ↔ (get_or qs w 0 ≡ 0)) → (w : ℕ) → Contains ys w ↔ (Contains xs w × (w ≢ v))
 others-held xs ys ps qs v old new none same w =
     let left : Contains ys w → w ≢ v = λ h e. has-place ys qs w new h (ap (λ (u : ℕ). get_or qs u 0) e ∙ none) in (
       λ h. (held-at xs ps w old (λ lost. has-place ys qs w new h ((same w (left h)).0 lost)), left h),
@@ -41,7 +42,8 @@ others-held xs ys ps qs v old new none same w =
     )
 
 -- where one variable got a place, it stands in the heap with the others
-pub more-held : (xs ys ps qs : List ℕ) (v : ℕ) → IsInverse xs ps → IsInverse ys qs → get_or qs v 0 ≢ 0 → ((w : ℕ) → w ≢ v → (get_or ps w 0 ≡ 0) ↔ (get_or qs w 0 ≡ 0)) → (w : ℕ) → Contains ys w ↔ (Contains xs w ⊎ (w ≡ v))
+pub more-held : (xs ys ps qs : List ℕ) (v : ℕ) → IsInverse xs ps → IsInverse ys qs → get_or qs v 0 ≢ 0 →
+    ((w : ℕ) → w ≢ v → (get_or ps w 0 ≡ 0) ↔ (get_or qs w 0 ≡ 0)) → (w : ℕ) → Contains ys w ↔ (Contains xs w ⊎ (w ≡ v))
 more-held xs ys ps qs v old new some same w = (
   λ h. elim (cases_eq w v) [
     | inl e ↦ inr e

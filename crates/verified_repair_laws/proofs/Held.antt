@@ -1,4 +1,4 @@
--- Repaired files in the place of the old ones are read, and have the repaired network.
+-- Repaired files that replaced the old ones are read, and have the repaired network.
 use Rattle.std.proofs.Common.{◌≡◌, ℕ, ◌-◌, ◌≤◌, Bool, true, false, if◌then◌else◌, List, [], ◌∷◌, length, map, min, refl, sym, ap, subst, ◌∙◌, arith}
 use Rattle.std.specs.Prelude.{All, Option, Some, None, unwrap_or, nat_lt, Ok}
 use Rattle.std.specs.List.{AllZip}
@@ -35,7 +35,7 @@ within_limit limit name (Some bytes) e = by (nat_lt limit (length bytes)) refl e
     by true is k = absurd (cc)
     by false is k = ltb-false limit (length bytes) is
 
--- files of which none is refused are together within the room
+-- files none of which is refused fit into the room together
 all_within : (most room : ℕ) (files : Files) (names : List (List ℕ)) → first_refusal most room files names ≡ None → total length (map (bytes_at files) names) ≤ room
 all_within most room files [] e = omega arith
 all_within most room files (name ∷ names) e =
@@ -55,7 +55,8 @@ short_held limit name text short = by (nat_lt limit (length text)) refl
 abbrev Holds : Files → List ℕ → List ℕ → Type 0
 Holds files name text = files name ≡ Some text
 
-all_held : (most room : ℕ) (files : Files) (names texts : List (List ℕ)) → AllZip (Holds files) names texts → All (λ text. length text ≤ most) texts → total length texts ≤ room → first_refusal most room files names ≡ None
+all_held : (most room : ℕ) (files : Files) (names texts : List (List ℕ)) → AllZip (Holds files) names texts → All (λ text. length text ≤ most) texts →
+    total length texts ≤ room → first_refusal most room files names ≡ None
 all_held most room files [] [] held short few = refl
 all_held most room files [] (t ∷ ts) held short few = absurd held
 all_held most room files (n ∷ ns) [] held short few = absurd held
@@ -64,7 +65,8 @@ all_held most room files (n ∷ ns) (t ∷ ts) held short few =
     let bytes : bytes_at files n ≡ t = ap (λ (o : Option (List ℕ)). unwrap_or o []) held.0 in
     let first : read_refusal (min most room) files n ≡ None = ap (refusal_within (min most room) n) held.0 ∙ short_held (min most room) n t (omega (arith, one, few)) in
     let rest : first_refusal most (room - length (bytes_at files n)) files ns ≡ None =
-    ap (λ (b : List ℕ). first_refusal most (room - length b) files ns) bytes ∙ all_held most (room - length t) files ns ts held.1 (All-tail (λ text. length text ≤ most) t ts short) (omega (arith, few)) in
+    ap (λ (b : List ℕ). first_refusal most (room - length b) files ns) bytes
+    ∙ all_held most (room - length t) files ns ts held.1 (All-tail (λ text. length text ≤ most) t ts short) (omega (arith, few)) in
     ap (λ (o : Option FileRefusal). option_or o (first_refusal most (room - length (bytes_at files n)) files ns)) first ∙ rest
 
 contents_are : (files : Files) (names texts : List (List ℕ)) → AllZip (Holds files) names texts → map (bytes_at files) names ≡ texts
@@ -80,7 +82,8 @@ repaired_files_are_verified files_are_short classes_stay words before after late
     let input = found.has.input in
     let olds : List (List ℕ) = contents before doc in
     let few : bytes_of_all olds ≤ 16777216 = omega (arith, all_within 1048576 16777216 before doc.routers input.files_are.held, total-sum length olds) in
-    let short : AreShort repair.new = files_are_short doc found.built olds repair.new repair.list repair.flags found.editable repair.repairable.edits repair.repairable.limits.edits few repair.patched in
+    let short : AreShort repair.new = files_are_short doc found.built olds repair.new repair.list repair.flags found.editable repair.repairable.edits repair.repairable.limits.edits
+    few repair.patched in
     let edits = repair.repairable.edits in
     record {
       doc = doc;

@@ -1,4 +1,4 @@
-//! What `verify` answers of the files that `repair` leaves: nothing but yes.
+//! `verify` says yes to each policy over the files that `repair` leaves.
 #![tactic(auto)]
 
 pub mod laws;

@@ -21,8 +21,9 @@ use Rattle.run_files.proofs.Answering.{stopped}
 use Rattle.verify_commands.specs.Verifies.{IsVerdictOn, IsVerified, verdicts_status}
 use Rattle.verify_commands.proofs.Verified.{judged_true}
 
--- verdicts that are right and are those that are fixed
-verdicts_on : (net : Network) (policies judged : List Policy) (vs : List Verdict) → AllZip (IsRight net) judged vs → AllZip (IsFixed net policies) judged vs → AllZip (IsVerdictOn net policies) judged vs
+-- verdicts that are right and have the fixed witnesses
+verdicts_on : (net : Network) (policies judged : List Policy) (vs : List Verdict) → AllZip (IsRight net) judged vs → AllZip (IsFixed net policies) judged vs →
+    AllZip (IsVerdictOn net policies) judged vs
 verdicts_on net policies [] [] right fixed = tt
 verdicts_on net policies [] (v ∷ vs) right fixed = absurd right
 verdicts_on net policies (p ∷ ps) [] right fixed = absurd right
@@ -33,7 +34,7 @@ pub all_on : {E : Type 0} (net : Network) (policies : List Policy) (r : Result (
 all_on net policies (Ok vs) right fixed = verdicts_on net policies policies vs right fixed
 all_on net policies (Err e) right fixed = tt
 
--- what the reading of the input answered
+-- the input that was read
 abbrev Read : Option Files → List ℕ → Input → Type 0
 Read held document input = IfSome held (λ files. HoldsInput Judging [] document files input.doc input.net)
 
@@ -53,7 +54,7 @@ input_stopped held document stop told =
     stopped IsJudging (IsJudgingRefusal Judging document) (IsVerified document) (IsInputRefusal Judging [] document) (λ files (input : Input). HoldsInput Judging [] document files input.doc input.net)
     held stop (λ files r refused. inl refused) told
 
--- the report of the verdicts, which are true
+-- the report of the verdicts, all of which are true
 pub verified : (held : Option Files) (document : List ℕ) (input : Input) (verdicts : List Verdict) (done : Done) → Read held document input → IsFit input
     → PoliciesHaveFewClasses input.net input.doc.policies → AllZip (IsVerdictOn input.net input.doc.policies) input.doc.policies verdicts → done.text ≡ report_text input.net input.doc verdicts
     → done.writes ≡ [] → done.status ≡ verdicts_status verdicts → done.status ≤ 1 → Answers IsJudging (IsJudgingRefusal Judging document) (IsVerified document) held (Ok done)

@@ -20,7 +20,7 @@ module _ (words : TraceWords) (files : Files) where
   known : IsDetermined Judging words.down words.document files
   known = determined Judging words.down words.document files
 
-  -- two networks of the input are the same
+  -- two networks of the input are equal
   one_input : (doc other : Document) (net last : Network) → HasLinks words files doc net → HasLinks words files other last → net ≡ last
   one_input doc other net last h k =
       let same : doc ≡ other = known.one_document doc other h.files_are.document_is k.files_are.document_is in
@@ -38,7 +38,7 @@ module _ (words : TraceWords) (files : Files) where
   refused_once r s (inr u) (inl v) = absurd (known.not_both u.doc u.net s u.input v)
   refused_once r s (inr u) (inr v) = u.told ∙ sym v.told
 
--- a trace that was put is one of a network
+-- a trace that was printed is one of a network
 pub has_trace : (words : TraceWords) (files : Files) (done : Done) → IsTraced words files done → HasTrace words files
 has_trace words files done t = record { doc = t.doc; net = t.net; input = t.input; ends = t.ends }
 

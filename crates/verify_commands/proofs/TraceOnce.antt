@@ -18,7 +18,7 @@ use Rattle.net_rules.proofs.InOrder.{ordered_once}
 use Rattle.route_trace.specs.Routes.{distance_map, Owns, AreDistances, IsNextHop, AreNextHops}
 use Rattle.route_trace.specs.TraceText.{router_name, route_line, route_lines, trace_head, trace_text, IsTrace}
 
--- the links stand in the order of their numbers
+-- the links are in the order of their numbers
 abbrev IsLower : Link → Link → Type 0
 IsLower k l = k.0 < l.0
 
@@ -53,11 +53,13 @@ module _ (net : Network) (valid : IsValid net) (failed : FailureSet) where
   same_host : (o : Option Prefix) (p q : Prefix) → o ≡ Some p → o ≡ Some q → p ≡ q
   same_host o p q e h = cc
 
-  lines_once : (to : Prefix) (ds : List (Option ℕ)) (hops more : ℕ → List Link) → ((u : ℕ) → u < length net.routers → AreNextHops net to failed (distance_map ds) u (hops u)) → ((u : ℕ) → u < length net.routers → AreNextHops net to failed (distance_map ds) u (more u)) →
+  lines_once : (to : Prefix) (ds : List (Option ℕ)) (hops more : ℕ → List Link) →
+      ((u : ℕ) → u < length net.routers → AreNextHops net to failed (distance_map ds) u (hops u)) → ((u : ℕ) → u < length net.routers → AreNextHops net to failed (distance_map ds) u (more u)) →
       route_lines net ds hops (length net.routers) ≡ route_lines net ds more (length net.routers)
   lines_once to ds hops more these those =
       pieces_once (λ u. route_line (router_name net u) (distance_map ds u) (hops u)) (λ u. route_line (router_name net u) (distance_map ds u) (more u)) 0 (length net.routers)
-      (λ u low high. ap (λ (ls : List Link). route_line (router_name net u) (distance_map ds u) ls) (hops_once to ds u (hops u) (more u) (these u (omega (arith, high))) (those u (omega (arith, high)))))
+      (λ u low high. ap (λ (ls : List Link). route_line (router_name net u) (distance_map ds u) ls)
+      (hops_once to ds u (hops u) (more u) (these u (omega (arith, high))) (those u (omega (arith, high)))))
 
   pub trace_once : (from to : Prefix) (text other : List ℕ) → IsTrace net failed from to text → IsTrace net failed from to other → text ≡ other
   trace_once from to text other t s =

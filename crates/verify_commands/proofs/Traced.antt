@@ -24,12 +24,13 @@ use Rattle.run_files.proofs.Answering.{refused, stopped}
 use Rattle.verify_commands.specs.Traces.{HasNoTrace, HasTrace, IsTraceRefusal, IsTraced, TellsTrace, down_flags}
 use Rattle.verify_commands.proofs.OneTrace.{has_trace, traced_or_not}
 
--- the flags that were made, and the trace with them
+-- the trace with the flags that were made
 pub flags_from : (flags made : List Bool) (links count : ℕ) (numbers read : List ℕ) → flags ≡ made → made ≡ down_flags count read → count ≡ links → read ≡ numbers → flags ≡ down_flags links numbers
 flags_from flags made links count numbers read same are counted is =
     same ∙ are ∙ ap (λ (k : ℕ). down_flags k read) counted ∙ ap (down_flags links) is
 
-pub trace_from : (net : Network) (flags down : List Bool) (from to : Prefix) (made text : List ℕ) → flags ≡ down → text ≡ made → IsTrace net (flagged flags) from to made → IsTrace net (flagged down) from to text
+pub trace_from : (net : Network) (flags down : List Bool) (from to : Prefix) (made text : List ℕ) → flags ≡ down → text ≡ made →
+    IsTrace net (flagged flags) from to made → IsTrace net (flagged down) from to text
 trace_from net flags down from to made text same is trace =
     let P : List Bool → Type 0 = λ fs. IsTrace net (flagged fs) from to made in
     let Q : List ℕ → Type 0 = λ t. IsTrace net (flagged down) from to t in
@@ -38,7 +39,7 @@ trace_from net flags down from to made text same is trace =
 pub has_hosts : (net : Network) (from to : Prefix) → HasEndpoints net from to → HasHost net from × HasHost net to
 has_hosts net from to ends = (host_at net from ends.source ends.from, host_at net to ends.target ends.to)
 
--- what the reading of the input answered
+-- the input that was read
 abbrev Read : Option Files → TraceWords → Input → Type 0
 Read held words input = IfSome held (λ files. HoldsInput Judging words.down words.document files input.doc input.net)
 
@@ -64,10 +65,12 @@ pub traced : (held : Option Files) (words : TraceWords) (input : Input) (done : 
     IsTrace input.net (flagged (down_flags (length input.net.links) words.down)) words.from words.to done.text → done.writes ≡ [] → done.status ≡ 0 →
     Answers IsJudging (IsTraceRefusal words) (IsTraced words) held (Ok done)
 traced None words input done told fit ends text writes status = (record { status = omega (arith, status); writes = writes }, tt)
-traced (Some files) words input done told fit ends text writes status =
-    (record { status = omega (arith, status); writes = writes }, record { doc = input.doc; net = input.net; input = told; valid = fit.valid; ends = ends; text = text; writes = writes; status = status })
+traced (Some files) words input done told fit ends text writes status = (
+  record { status = omega (arith, status); writes = writes },
+  record { doc = input.doc; net = input.net; input = told; valid = fit.valid; ends = ends; text = text; writes = writes; status = status },
+)
 
--- what a status says
+-- what each status says
 told_refused : (words : TraceWords) (files : Files) (r : FileRefusal) → IsTraceRefusal words files r → TellsTrace words 5 files
 told_refused words files r refused =
     let says : HasNoTrace words files = record { refusal = r; refused = refused } in

@@ -30,7 +30,7 @@ all_right net document [] (v ∷ vs) judged = absurd judged
 all_right net document (p ∷ ps) [] judged = absurd judged
 all_right net document (p ∷ ps) (v ∷ vs) judged = (judged.0.right, all_right net document ps vs judged.1)
 
--- so the verdicts of `verify` are true
+-- the verdicts of `verify` are true
 pub judged_true : (net : Network) → IsValid net → (policies : List Policy) (vs : List Verdict) → AllZip (IsVerdictOn net policies) policies vs → AllZip (IsTrueOf net) policies vs
 judged_true net valid policies vs judged = all_true net valid policies vs (all_right net policies policies vs judged)
 
@@ -41,7 +41,7 @@ module _ (document : List ℕ) (files : Files) where
   once : IsJudgedOnce Judging document files
   once = judged_once Judging document files
 
-  -- of yes, no and refused only one is said
+  -- only one of yes, no and refused holds
   pub yes_or_no : SaysYes document files → SaysNo document files → ⊥
   yes_or_no yes' no' =
       let docs : yes'.doc ≡ no'.doc = known.one_document yes'.doc no'.doc yes'.input.files_are.document_is no'.input.files_are.document_is in
@@ -57,8 +57,9 @@ module _ (document : List ℕ) (files : Files) where
   pub no_or_refused : SaysNo document files → SaysRefused document files → ⊥
   no_or_refused no' refused = once.not_both no'.doc no'.net refused.refusal no'.input no'.classes refused.refused
 
--- right verdicts are all yes exactly where the network meets all policies
-decide : (net : Network) → IsValid net → (policies : List Policy) (verdicts : List Verdict) → AllZip (IsVerdictOn net policies) policies verdicts → (list_all is_yes verdicts ≡ true) ↔ All (Meets net) policies
+-- right verdicts are all yes exactly if the network meets all policies
+decide : (net : Network) → IsValid net → (policies : List Policy) (verdicts : List Verdict) → AllZip (IsVerdictOn net policies) policies verdicts →
+    (list_all is_yes verdicts ≡ true) ↔ All (Meets net) policies
 decide net valid policies verdicts judged = all_decided net (right_verdicts_decide net valid) policies verdicts (all_right net policies policies verdicts judged)
 
 -- the status of an answer

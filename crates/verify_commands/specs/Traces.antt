@@ -25,7 +25,8 @@ down_flags links numbers =
 abbrev pub HasLinks : TraceWords → Files → Document → Network → Type 0
 HasLinks words files doc net = HoldsInput Judging words.down words.document files doc net
 
--- and the prefixes do not lie in two different host networks of it
+-- the document and its files have such a network, and the prefixes do not lie in two different host
+-- networks of it
 pub record RefusesTraceEnds (words : TraceWords) (files : Files) (r : FileRefusal) : Type 0 where
   pub doc : Document
   pub net : Network
@@ -59,7 +60,7 @@ pub record HasTrace (words : TraceWords) (files : Files) : Type 0 where
   pub input : HasLinks words files doc net
   pub ends : HasEndpoints net words.from words.to
 
--- they have none, and there is a first reason for it
+-- the document, its files, their network or the prefixes are refused
 pub record HasNoTrace (words : TraceWords) (files : Files) : Type 0 where
   pub refusal : FileRefusal
   pub refused : IsTraceRefusal words files refusal

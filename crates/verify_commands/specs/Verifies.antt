@@ -18,13 +18,13 @@ use Rattle.run_inputs.specs.Counts.{PoliciesHaveFewClasses, IsJudgingRefusal}
 use Rattle.run_inputs.specs.Inputs.{HoldsInput}
 use Rattle.run_inputs.specs.TrueVerdicts.{IsTrueOf}
 
--- the verdict on one of the policies is right, and it is the one with the witness that is fixed
+-- the verdict on one of the policies is right, and has the witness that is fixed for it
 pub record IsVerdictOn (net : Network) (policies : List Policy) (policy : Policy)
     (verdict : Verdict) : Type 0 where
   pub right : IsRight net policy verdict
   pub fixed : IsFixed net policies policy verdict
 
--- 0 where each verdict is a yes, and else 1
+-- 0 if each verdict is a yes, else 1
 abbrev pub verdicts_status : List Verdict → ℕ
 verdicts_status verdicts = if list_all is_yes verdicts then 0 else 1
 
@@ -51,8 +51,8 @@ pub record SaysYes (document : List ℕ) (files : Files) : Type 0 where
   pub classes : PoliciesHaveFewClasses net doc.policies
   pub meets : MeetsDocument net doc
 
--- they have a network and not too many classes, and it does not meet each policy: it breaks one
--- under some set of failed links, or a reach policy is not clear
+-- the document and its files have a network and not too many classes, and the network does not meet
+-- each policy: it breaks one under some set of failed links, or a reach policy is not clear
 pub record SaysNo (document : List ℕ) (files : Files) : Type 0 where
   pub doc : Document
   pub net : Network
@@ -60,7 +60,7 @@ pub record SaysNo (document : List ℕ) (files : Files) : Type 0 where
   pub classes : PoliciesHaveFewClasses net doc.policies
   pub meets_not : ¬ MeetsDocument net doc
 
--- they have no network, or their policies too many classes, and there is a first reason for it
+-- the document, its files, their network or the number of classes is refused
 pub record SaysRefused (document : List ℕ) (files : Files) : Type 0 where
   pub refusal : FileRefusal
   pub refused : IsJudgingRefusal Judging document files refusal

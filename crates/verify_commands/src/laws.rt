@@ -22,7 +22,7 @@ pub fn trace_is_told()
         (λ status before after. TellsTrace words status before) }
 {}
 
-/// The words and the files give at most one trace and at most one first refusal, and never both.
+/// The words and the files give at most one trace or one first refusal, never both.
 pub fn trace_is_determined()
     ensures one_trace { (words : TraceWords) (files : Files) (done other : Done)
         → IsTraced words files done → IsTraced words files other → done ≡ other }

@@ -20,6 +20,7 @@ module _ (net : Network) (kind : PolicyKind) (class : Class) where
   breaking [] each = tt
   breaking (a ∷ arcs) each = (each.0.1, breaking arcs each.1)
 
-  pub carried : (arcs : List Arc) → ((p : Packet) → IsOf class p → AllByRecursion (λ arc. ArcPermits net arc p) arcs) → AllByRecursion (MayBreak kind) arcs → AllByRecursion (MayCarry net kind class) arcs
+  pub carried : (arcs : List Arc) → ((p : Packet) → IsOf class p → AllByRecursion (λ arc. ArcPermits net arc p) arcs) → AllByRecursion (MayBreak kind) arcs →
+      AllByRecursion (MayCarry net kind class) arcs
   carried [] permit breaks = tt
   carried (a ∷ arcs) permit breaks = ((λ p at. (permit p at).0, breaks.0), carried arcs (λ p at. (permit p at).1) breaks.1)

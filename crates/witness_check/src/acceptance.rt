@@ -1,9 +1,9 @@
 //! Whether a verdict is right by its witness alone, without a search.
-ghost use Rattle.std.specs.Prelude.{◌↔◌, IsTrue};
-ghost use Rattle.net_model.specs.Packets.{subject};
 ghost use Rattle.net_model.specs.Forwarding.{HasEnds};
+ghost use Rattle.net_model.specs.Packets.{subject};
 ghost use Rattle.net_model.specs.Validity.{IsValid};
 ghost use Rattle.net_model.specs.Witnesses.{IsRight, IsRightFor, IsRightBlocking, IsRightReach};
+ghost use Rattle.std.specs.Prelude.{◌↔◌, IsTrue};
 ghost use Rattle.witness_check.specs.Cases.{IsTold, ends_of};
 
 use crate::cases::Case;

@@ -1,9 +1,9 @@
 //! How many packets of a class a list gives an answer to, found by splitting the class at its
 //! entries.
-ghost use Rattle.std.specs.Prelude.{◌≡◌, ◌↔◌, ◌≤◌, IsTrue, position, length, drop, IfSome, IsNone};
 ghost use Rattle.net_model.specs.Witnesses.{IsUniform};
-ghost use Rattle.witness_check.specs.Boxes.{classes_meet, entry_class};
+ghost use Rattle.std.specs.Prelude.{◌≡◌, ◌↔◌, ◌≤◌, IsTrue, position, length, drop, IfSome, IsNone};
 ghost use Rattle.witness_check.specs.Answers.{EachGets, NoneGets, NoneGetsBoth, IsShare};
+ghost use Rattle.witness_check.specs.Boxes.{classes_meet, entry_class};
 
 use crate::boxes::{classes_meet, entry_class, halve_towards, splits};
 use net_model::{Class, PacketEntry, PacketList};

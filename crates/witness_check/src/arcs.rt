@@ -1,7 +1,7 @@
 //! Arcs with their rows, and whether they are routed.
+ghost use Rattle.net_model.specs.Routing.{IsArc, IsRouted};
 ghost use Rattle.std.specs.Prelude.{◌↔◌, IsTrue, IfSome, IfNone};
 ghost use Rattle.witness_check.specs.Cases.{IsTold, arc_of, IsRoutedArc, IsOver, EachOver};
-ghost use Rattle.net_model.specs.Routing.{IsArc, IsRouted};
 
 use crate::cases::Case;
 use arc_base::Link;

@@ -1,7 +1,7 @@
 //! Classes as boxes of addresses and services: whether two meet, and whether one splits another.
-ghost use Rattle.std.specs.Prelude.{◌≡◌, ◌↔◌, ◌<◌, ◌≤◌, ◌+◌, ◌^◌, IsTrue};
 ghost use Rattle.arc_base.specs.Addresses.{size};
 ghost use Rattle.net_model.specs.Packets.{ShareNoPacket};
+ghost use Rattle.std.specs.Prelude.{◌≡◌, ◌↔◌, ◌<◌, ◌≤◌, ◌+◌, ◌^◌, IsTrue};
 ghost use Rattle.witness_check.specs.Boxes.{prefixes_meet, classes_meet, entry_class};
 ghost use Rattle.witness_check.specs.Boxes.{splits_services, splits, AreHalves, AreServiceHalves};
 ghost use Rattle.witness_check.specs.Boxes.{MakeUp, service_bits, open_bits};

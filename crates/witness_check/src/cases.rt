@@ -1,7 +1,7 @@
 //! What the witness of one policy is judged against.
-ghost use Rattle.std.specs.Prelude.{◌≡◌, ◌↔◌, IsTrue};
-ghost use Rattle.net_model.specs.Packets.{subject};
 ghost use Rattle.net_model.specs.Forwarding.{AreEnds, HasEnds};
+ghost use Rattle.net_model.specs.Packets.{subject};
+ghost use Rattle.std.specs.Prelude.{◌≡◌, ◌↔◌, IsTrue};
 ghost use Rattle.witness_check.specs.Cases.{ends_of, IsTold};
 
 use arc_base::Prefix;

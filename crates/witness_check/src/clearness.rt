@@ -1,10 +1,10 @@
 //! Whether the lists on a link permit each packet of a class.
-ghost use Rattle.std.specs.Prelude.{◌↔◌, IsTrue};
-ghost use Rattle.net_model.specs.Packets.{subject};
 ghost use Rattle.net_model.specs.Forwarding.{Ends, AreEnds, HasEnds, ArcPermitsEach};
+ghost use Rattle.net_model.specs.Packets.{subject};
 ghost use Rattle.net_model.specs.Policies.{IsClear};
 ghost use Rattle.net_model.specs.Routing.{IsArc};
 ghost use Rattle.net_model.specs.Validity.{IsValid};
+ghost use Rattle.std.specs.Prelude.{◌↔◌, IsTrue};
 ghost use Rattle.witness_check.specs.Cases.{ends_of, IsTold, AsksPermitted, EachPermitted};
 ghost use Rattle.witness_check.specs.Cases.{IfRouted, EachOver, EachRouted, arc_of};
 

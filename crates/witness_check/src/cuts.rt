@@ -1,9 +1,9 @@
 //! Whether links are a cut: all links whose routed arcs leave a side.
-ghost use Rattle.std.specs.Prelude.{◌↔◌, ◌<◌, IsTrue, All, map};
-ghost use Rattle.std.specs.List.Sorted.{IsStrictlyIncreasing};
 ghost use Rattle.net_model.specs.Routing.{IsArc};
 ghost use Rattle.net_model.specs.Witnesses.{IsOn, LeavesSide, IsRightCut, IsRightRefused};
 ghost use Rattle.net_model.specs.Witnesses.{IsRightDenied};
+ghost use Rattle.std.specs.List.Sorted.{IsStrictlyIncreasing};
+ghost use Rattle.std.specs.Prelude.{◌↔◌, ◌<◌, IsTrue, All, map};
 ghost use Rattle.witness_check.specs.Cases.{IsTold, ends_of, arc_of};
 ghost use Rattle.witness_check.specs.Cuts.{LeavesOver, LeavesOverIn, CutsOver, CutsAll, IsCut};
 ghost use Rattle.witness_check.specs.Cuts.{PartsEnds, DeniesOverIn, DeniesOver};

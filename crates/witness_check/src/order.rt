@@ -1,7 +1,7 @@
 //! The order in which reports have classes: by their sources, then by their destinations, then by
 //! their services.
-ghost use Rattle.std.specs.Prelude.{◌<◌, ◌+◌, IsTrue, AllPairs};
 ghost use Rattle.net_model.specs.Packets.{ShareNoPacket};
+ghost use Rattle.std.specs.Prelude.{◌<◌, ◌+◌, IsTrue, AllPairs};
 ghost use Rattle.witness_check.specs.Order.{IsBelow, GoesBefore, ComesBefore};
 
 use crate::boxes::size;

@@ -1,8 +1,8 @@
 //! Whether packets and classes enter and leave.
-ghost use Rattle.std.specs.Prelude.{◌↔◌, IsTrue};
-ghost use Rattle.net_model.specs.Packets.{IsOf, LiesIn};
 ghost use Rattle.net_model.specs.Forwarding.{Enters, Leaves};
+ghost use Rattle.net_model.specs.Packets.{IsOf, LiesIn};
 ghost use Rattle.net_model.specs.declared.lists.Packet.{Packet};
+ghost use Rattle.std.specs.Prelude.{◌↔◌, IsTrue};
 ghost use Rattle.witness_check.specs.Cases.{ends_of, EachPasses};
 
 use crate::answers::none_gets_both;

@@ -1,8 +1,8 @@
 //! Whether paths share no link and lead from the source to the target.
-ghost use Rattle.std.specs.Prelude.{◌≢◌, ◌↔◌, ◌+◌, ◌⊎◌, IsTrue, Contains, AllPairs, All, length};
-ghost use Rattle.std.specs.List.{flat_map};
 ghost use Rattle.net_model.specs.Validity.{IsValid};
 ghost use Rattle.net_model.specs.Witnesses.{IsPath, IsRightPaths};
+ghost use Rattle.std.specs.List.{flat_map};
+ghost use Rattle.std.specs.Prelude.{◌≢◌, ◌↔◌, ◌+◌, ◌⊎◌, IsTrue, Contains, AllPairs, All, length};
 ghost use Rattle.witness_check.specs.Cases.{IsTold, ends_of};
 ghost use Rattle.witness_check.specs.Paths.{IsFullCount, StandOnce};
 

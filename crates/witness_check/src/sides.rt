@@ -1,8 +1,8 @@
 //! Whether sides are closed and their classes make up all packets of the policy.
-ghost use Rattle.std.specs.Prelude.{◌≡◌, ◌↔◌, ◌^◌, ◌<◌, ◌≤◌, IsTrue, All, AllPairs, length, sum_by};
 ghost use Rattle.net_model.specs.Packets.{ShareNoPacket, packets};
 ghost use Rattle.net_model.specs.Routing.{IsArc};
 ghost use Rattle.net_model.specs.Witnesses.{IsUniform, IsRightClosed};
+ghost use Rattle.std.specs.Prelude.{◌≡◌, ◌↔◌, ◌^◌, ◌<◌, ◌≤◌, IsTrue, All, AllPairs, length, sum_by};
 ghost use Rattle.witness_check.specs.Cases.{IsTold, ends_of, arc_of, EachOver, EachRouted};
 ghost use Rattle.witness_check.specs.Cases.{IfRouted};
 ghost use Rattle.witness_check.specs.Sides.{HoldsSource, SparesTarget, Stands, Keeps, KeepsEach};

@@ -1,8 +1,8 @@
 //! Whether links lead on from router to router.
-ghost use Rattle.std.specs.Prelude.{◌≡◌, ◌↔◌, IsTrue, IfSome, IfNone};
 ghost use Rattle.net_model.specs.Routing.{Arc, IsArc, IsRouted, tail_router};
 ghost use Rattle.net_model.specs.Validity.{IsValid};
 ghost use Rattle.net_model.specs.Witnesses.{IsPath, MayBreak};
+ghost use Rattle.std.specs.Prelude.{◌≡◌, ◌↔◌, IsTrue, IfSome, IfNone};
 ghost use Rattle.witness_check.specs.Cases.{IsTold, arc_of, ends_of};
 ghost use Rattle.witness_check.specs.Trails.{IsStep, IsTrail, IsTrailOnce, MayCarry, Avoids};
 ghost use Rattle.witness_check.specs.Trails.{AnyArc};

@@ -9,5 +9,6 @@ use Rattle.arc_nodecut.proofs.apart.goes_by.Goals as goal
 pub returns : goal.returns
 returns c =
     goes_by_if c.args.case.now.net.now (ends_of c.args.case.now) c.args.path.now (λ one. omega (arith, one)) c.goes_once.result
-    (subst (λ (links : List Link). IsTrue c.goes_once.result ↔ IsTrailOnce c.args.case.now.net.now c.args.case.now.to (source_router (ends_of c.args.case.now)) links (target_router (ends_of c.args.case.now)))
+    (subst (λ (links : List Link). IsTrue c.goes_once.result ↔ IsTrailOnce c.args.case.now.net.now c.args.case.now.to (source_router (ends_of c.args.case.now)) links
+    (target_router (ends_of c.args.case.now)))
     c.slice.ensures.items c.goes_once.ensures)

@@ -7,4 +7,5 @@ use Rattle.arc_nodecut.proofs.apart.keeps_off.Given as goal
 
 abbrev pub invariant-loop-link : goal.invariant-loop-link
 invariant-loop-link l =
-    IsTrail l.case.net.now l.case.to (KeepsOff l.case.net.now (ends_of l.case) l.other) l.case.source.now.router.0 l.links l.case.target.now.router.0 ↔ IsTrail l.case.net.now l.case.to (KeepsOff l.case.net.now (ends_of l.case) l.other) l.router.0 (drop l.link-index l.links) l.case.target.now.router.0
+    IsTrail l.case.net.now l.case.to (KeepsOff l.case.net.now (ends_of l.case) l.other) l.case.source.now.router.0 l.links l.case.target.now.router.0 ↔ IsTrail
+    l.case.net.now l.case.to (KeepsOff l.case.net.now (ends_of l.case) l.other) l.router.0 (drop l.link-index l.links) l.case.target.now.router.0

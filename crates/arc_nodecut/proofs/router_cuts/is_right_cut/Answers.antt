@@ -19,12 +19,14 @@ returns c =
 pub returns-then-not-are_rising : goal.returns-then-not-are_rising
 returns-then-not-are_rising c = (
   λ t. absurd (false≢true t),
-  λ right. absurd (false≢true (sym c.if-not-are_rising.true ∙ c.are_rising.ensures.1 (subst (λ (rs : List Router). IsStrictlyIncreasing (map (λ (r : Router). r.0) rs)) (sym c.slice.ensures.items) right.rising))),
+  λ right. absurd (false≢true
+      (sym c.if-not-are_rising.true ∙ c.are_rising.ensures.1 (subst (λ (rs : List Router). IsStrictlyIncreasing (map (λ (r : Router). r.0) rs)) (sym c.slice.ensures.items) right.rising))),
 )
 
 pub returns-then-not-are_inner : goal.returns-then-not-are_inner
 returns-then-not-are_inner c = (
   λ t. absurd (false≢true t),
-  λ right. absurd (false≢true (sym c.if-not-are_inner.true ∙ c.are_inner.ensures.1 (subst (λ (rs : List Router). All (IsInner c.args.case.now.net.now (ends_of c.args.case.now)) rs) (sym c.slice-2.ensures.items)
+  λ right. absurd (false≢true
+      (sym c.if-not-are_inner.true ∙ c.are_inner.ensures.1 (subst (λ (rs : List Router). All (IsInner c.args.case.now.net.now (ends_of c.args.case.now)) rs) (sym c.slice-2.ensures.items)
       (inner_of c.args.case.now.net.now (ends_of c.args.case.now) c.args.routers.now c.args.side.now c.args.k c.args.case.now.whole right)))),
 )

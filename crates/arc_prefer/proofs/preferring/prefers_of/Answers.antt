@@ -16,7 +16,8 @@ stable_labels-requires-clause-host c =
 
 pub first_fault-requires-clause-ready : goal.first_fault-requires-clause-ready
 first_fault-requires-clause-ready c =
-    ready_of (record { case = c.of-case.result; labels = c.slice.result }) c.args.net.now (subject c.args.policy.now) c.of-case.ensures.net c.of-case.ensures.whole c.requires.valid c.of-case.ensures.ends c.of-case.ensures.told
+    ready_of (record { case = c.of-case.result; labels = c.slice.result }) c.args.net.now
+    (subject c.args.policy.now) c.of-case.ensures.net c.of-case.ensures.whole c.requires.valid c.of-case.ensures.ends c.of-case.ensures.told
     c.in_ok-labels.labels c.slice.ensures.items
     (c.in_ok-labels.ensures (target_router (ends_of c.of-case.result)) (target_owns c.args.net.now (subject c.args.policy.now) (ends_of c.of-case.result) c.of-case.ensures.ends))
 

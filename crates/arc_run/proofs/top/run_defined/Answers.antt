@@ -9,7 +9,8 @@ pub returns-in-Ok-clause-runs : goal.returns-in-Ok-clause-runs
 returns-in-Ok-clause-runs g c =
     let e = c.finish.ensures in
     let stood = c.in-Ok.ensures.failed.only (λ is. cc) in
-    finished (command_of c.args.words.now) c.in-Ok.outcome (g.S.Store.held c.args.store.now) (g.S.Store.held c.perform.new.store) (g.S.Store.held c.finish.new.store) (g.K.Sink.written c.args.out.now) (g.K.Sink.written c.finish.new.out) c.finish.result.code
+    finished (command_of c.args.words.now) c.in-Ok.outcome (g.S.Store.held c.args.store.now) (g.S.Store.held c.perform.new.store) (g.S.Store.held c.finish.new.store)
+    (g.K.Sink.written c.args.out.now) (g.K.Sink.written c.finish.new.out) c.finish.result.code
     c.in-Ok.ensures.defined (λ rose. omega (arith, rose, e.absences)) (λ more. omega (arith, more, e.taken)) c.in-Ok.ensures.cause c.in-Ok.ensures.same
     e.ended (λ h. let f = e.store_failed h in (omega (arith, f.0, stood), f.1, f.2, f.3)) e.sink_failed e.memory e.code
 
@@ -18,7 +19,8 @@ returns-in-Ok-clause-outcome g c below =
     let e = c.finish.ensures in
     let end = e.ended below in (
       end.0,
-      left (command_of c.args.words.now) c.in-Ok.outcome (g.S.Store.held c.args.store.now) (g.S.Store.held c.perform.new.store) (g.S.Store.held c.finish.new.store) (g.K.Sink.written c.args.out.now) (g.K.Sink.written c.finish.new.out)
+      left (command_of c.args.words.now) c.in-Ok.outcome (g.S.Store.held c.args.store.now) (g.S.Store.held c.perform.new.store) (g.S.Store.held c.finish.new.store)
+          (g.K.Sink.written c.args.out.now) (g.K.Sink.written c.finish.new.out)
           c.in-Ok.ensures.defined (λ rose. omega (arith, rose, e.absences)) (λ more. omega (arith, more, e.taken)) c.in-Ok.ensures.cause c.in-Ok.ensures.same end.1 end.2,
     )
 

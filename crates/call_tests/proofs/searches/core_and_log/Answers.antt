@@ -23,5 +23,6 @@ loop-id-preserved c =
       known = c.in_ok-put.ensures.known;
       long = omega (arith, long, was.long);
       few = omega (arith, long, ap additions is, additions-append steps (step ∷ []), additions_one step, was.few);
-      filled = ap (list_any adds_empty) is ∙ list_any-append adds_empty steps (step ∷ []) ∙ or_from (list_any adds_empty steps) (list_any adds_empty (step ∷ [])) was.filled (or_from (adds_empty step) false c.in_ok-again.ensures refl);
+      filled = ap (list_any adds_empty) is ∙ list_any-append adds_empty steps (step ∷ [])
+          ∙ or_from (list_any adds_empty steps) (list_any adds_empty (step ∷ [])) was.filled (or_from (adds_empty step) false c.in_ok-again.ensures refl);
     }

@@ -24,4 +24,5 @@ returns-clause-known c =
     let Known : Numbered → Type 0 = λ d. d.id ≤ max s.last_id id in
     let one : Numbered = record { id = id; lits = c.args.lits.now } in
     subst (λ (t : State). All (λ d. d.id ≤ t.last_id) t.clauses) (sym c.in_ok-add.ensures.ok)
-    (All-append Known s.clauses (one ∷ []) (All-weaker (λ (d : Numbered). d.id ≤ s.last_id) Known (λ d h. omega (arith, h)) s.clauses c.requires.known) (All-cons Known one [] (omega arith) (All-nil Known)))
+    (All-append Known s.clauses (one ∷ []) (All-weaker (λ (d : Numbered). d.id ≤ s.last_id) Known (λ d h. omega (arith, h)) s.clauses c.requires.known)
+    (All-cons Known one [] (omega arith) (All-nil Known)))

@@ -12,11 +12,13 @@ returns-in_err-sources-clause-told g c =
 pub returns-in_err-outcome-clause-told : goal.returns-in_err-outcome-clause-told
 returns-in_err-outcome-clause-told g c =
     let p = err_from_is_err_and c.from_residual-in_err-outcome.result c.from_residual-in_err-outcome.ensures.1 in
-    rw (p.1, p.2) (lines_stopped c.args.document.now c.args.certificate.now c.args.doc.now (g.S.Store.held c.args.store.now) (g.S.Store.held c.read_sources.new.store) c.in_ok-sources.ensures.reads.same c.in_ok-sources.sources
+    rw (p.1, p.2) (lines_stopped c.args.document.now c.args.certificate.now c.args.doc.now (g.S.Store.held c.args.store.now)
+    (g.S.Store.held c.read_sources.new.store) c.in_ok-sources.ensures.reads.same c.in_ok-sources.sources
     c.in_ok-sources.ensures.told c.in_ok-sources.ensures.fit.valid c.in_err-outcome.field-0.0 c.in_err-outcome.ensures.told)
 
 pub returns-clause-told : goal.returns-clause-told
 returns-clause-told g c =
-    judged c.args.document.now c.args.certificate.now c.args.doc.now (g.S.Store.held c.args.store.now) (g.S.Store.held c.read_sources.new.store) c.in_ok-sources.ensures.reads.same c.in_ok-sources.sources
+    judged c.args.document.now c.args.certificate.now c.args.doc.now (g.S.Store.held c.args.store.now) (g.S.Store.held c.read_sources.new.store)
+    c.in_ok-sources.ensures.reads.same c.in_ok-sources.sources
     c.in_ok-sources.ensures.told c.in_ok-sources.ensures.fit.valid c.in_ok-outcome.outcome c.in_ok-done.done c.in_ok-outcome.ensures.told
     (c.in_ok-done.ensures.text ∙ ap judgement_text c.judgement_of.ensures) (c.in_ok-done.ensures.status ∙ ap judgement_status c.judgement_of.ensures) c.in_ok-done.ensures.own

@@ -18,11 +18,13 @@ returns-in_err-count_classes-clause-told g c =
 pub returns-in_err-outcome-clause-told : goal.returns-in_err-outcome-clause-told
 returns-in_err-outcome-clause-told g c =
     let p = err_from_is_err_and c.from_residual-in_err-outcome.result c.from_residual-in_err-outcome.ensures.1 in
-    rw (p.1, p.2) (lines_stopped (g.S.Store.held c.args.store.now) (g.S.Store.held c.read_files.new.store) c.in_ok-input.ensures.reads.same c.args.document.now c.args.certificate.now c.args.doc c.in_ok-input.input.net c.in_ok-input.input.doc
+    rw (p.1, p.2) (lines_stopped (g.S.Store.held c.args.store.now)
+    (g.S.Store.held c.read_files.new.store) c.in_ok-input.ensures.reads.same c.args.document.now c.args.certificate.now c.args.doc c.in_ok-input.input.net c.in_ok-input.input.doc
     c.in_err-outcome.field-0.0 c.in_err-outcome.ensures.told)
 
 pub returns-clause-told : goal.returns-clause-told
 returns-clause-told g c =
-    judged (g.S.Store.held c.args.store.now) (g.S.Store.held c.read_files.new.store) c.in_ok-input.ensures.reads.same c.args.document.now c.args.certificate.now c.args.doc c.in_ok-input.input c.in_ok-outcome.outcome c.in_ok-done.done
+    judged (g.S.Store.held c.args.store.now) (g.S.Store.held c.read_files.new.store) c.in_ok-input.ensures.reads.same c.args.document.now c.args.certificate.now
+    c.args.doc c.in_ok-input.input c.in_ok-outcome.outcome c.in_ok-done.done
     c.in_ok-input.ensures.told c.in_ok-input.ensures.fit c.in_ok-count_classes.ensures c.in_ok-outcome.ensures.told
     (c.in_ok-done.ensures.text ∙ ap judgement_text c.judgement_of.ensures) (c.in_ok-done.ensures.status ∙ ap judgement_status c.judgement_of.ensures) c.in_ok-done.ensures.own

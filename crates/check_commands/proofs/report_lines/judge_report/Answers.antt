@@ -18,7 +18,8 @@ returns-clause-told g c =
     text_judged (λ (ls : List (List ℕ)) (o : Outcome). (text : List ℕ) → HasComeTo c.args.net.now c.args.doc.now text ls c.make-judge.result → IsJudgedTo c.args.net.now c.args.doc.now text o)
     (λ (ls : List (List ℕ)) (r : FileRefusal). ⊥) c.args.limit c.args.certificate.now
     (λ (files : Files) (r : FileRefusal). read_refusal c.args.limit files c.args.certificate.now ≡ Some r)
-    (λ (files : Files) (o : Outcome). IsJudgedTo c.args.net.now c.args.doc.now (bytes_at files c.args.certificate.now) o × ((o ≡ Accepted) ↔ IsReport c.args.net.now c.args.doc.now (bytes_at files c.args.certificate.now)))
+    (λ (files : Files) (o : Outcome). IsJudgedTo c.args.net.now c.args.doc.now
+    (bytes_at files c.args.certificate.now) o × ((o ≡ Accepted) ↔ IsReport c.args.net.now c.args.doc.now (bytes_at files c.args.certificate.now)))
     (λ files r late. late) (λ files r refused. absurd refused)
     (λ files o leads.
     let is = leads (bytes_at files c.args.certificate.now) (c.make-judge.ensures.come c.args.net.now c.args.doc.now (bytes_at files c.args.certificate.now)) in

@@ -14,7 +14,7 @@ use Rattle.sat_search.proofs.FormulaClauses.{live_are}
 use Rattle.cnf_commands.proofs.FoundBySearch.{all_appended, is_found}
 use Rattle.cnf_commands.proofs.solving.search_formula.Goals as goal
 
--- the formula is what the core knows
+-- the core knows the formula
 knows : (f : Formula) (s : State) → s ≡ core_of f → Knows (start f None []) s
 knows f s is = subst (Knows (start f None [])) (sym is) (record { clauses = live_are f.clauses; last = omega arith })
 
@@ -30,7 +30,8 @@ returns-clause-log g c =
     let ensures = c.in_ok-found.ensures in
     let positive = subst (λ (s : State). All (λ d. 1 ≤ d.id) s.clauses) (sym c.in_ok-core.ensures.core) (ids_are_positive f.clauses) in
     record {
-      accepted = all_appended (IsAccepted (start f None [])) c.make.result c.search_first.new.log.steps _ c.make.ensures ensures.keeps (ensures.accepted (start f None []) (knows f c.in_ok-core.core c.in_ok-core.ensures.core));
+      accepted = all_appended (IsAccepted (start f None [])) c.make.result c.search_first.new.log.steps _ c.make.ensures ensures.keeps
+          (ensures.accepted (start f None []) (knows f c.in_ok-core.core c.in_ok-core.ensures.core));
       has_lines = ensures.lines positive (subst (All HasLine) (sym c.make.ensures) (All-nil HasLine));
     }
 
@@ -39,7 +40,9 @@ returns-clause-found g c =
     let f = c.args.formula.now in
     let core = c.in_ok-core.ensures.core in
     let ensures = c.in_ok-found.ensures in
-    let accepted = all_appended (IsAccepted (start f None [])) c.make.result c.search_first.new.log.steps _ c.make.ensures ensures.keeps (ensures.accepted (start f None []) (knows f c.in_ok-core.core core)) in
+    let accepted = all_appended (IsAccepted (start f None [])) c.make.result c.search_first.new.log.steps _ c.make.ensures ensures.keeps
+    (ensures.accepted (start f None []) (knows f c.in_ok-core.core core)) in
     let spent = ensures.spent f None [] (knows_after f c.in_ok-core.core c.make.result core c.make.ensures) (subst (IsClean f None []) (sym c.make.ensures) tt) in
     let clean = ensures.clean f None [] (knows_after f c.in_ok-core.core c.make.result core c.make.ensures) (subst (IsClean f None []) (sym c.make.ensures) tt) in
-    is_found f c.args.limit c.search_first.new.log c.in_ok-found.found c.in_ok-core.core c.search_first.new.core c.make.result core c.make.ensures ensures.model ensures.others ensures.vars ensures.refuting spent clean accepted
+    is_found f c.args.limit c.search_first.new.log c.in_ok-found.found c.in_ok-core.core c.search_first.new.core c.make.result core c.make.ensures ensures.model ensures.others
+    ensures.vars ensures.refuting spent clean accepted

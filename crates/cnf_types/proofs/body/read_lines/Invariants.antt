@@ -7,7 +7,8 @@ use Rattle.cnf_types.proofs.body.read_lines.Given as goal
 abbrev pub invariant-loop-rest : goal.invariant-loop-rest
 invariant-loop-rest g l = record {
   bad : first_bad l.vars (content l.line (lines l.rest)) ≡ first_bad l.vars (content l.before (lines l.text));
-  pieces_are : (more : List ℤ) → pieces_after (g.S.ClauseSink.taken l.body.sink) l.body.unclosed.items (numbers l.vars (content l.line (lines l.rest)) ++ more) ≡ pieces (numbers l.vars (content l.before (lines l.text)) ++ more);
+  pieces_are : (more : List ℤ) → pieces_after (g.S.ClauseSink.taken l.body.sink) l.body.unclosed.items (numbers l.vars (content l.line (lines l.rest)) ++ more) ≡ pieces
+      (numbers l.vars (content l.before (lines l.text)) ++ more);
   last : l.line + length (lines l.rest) ≡ l.before + length (lines l.text);
   vars : l.body.vars ≡ l.vars;
   clauses : length (g.S.ClauseSink.taken l.body.sink) + length l.rest ≤ length l.text;

@@ -11,10 +11,12 @@ pub returns-then-literals-gt-LITERAL_LIMIT-clause-fault : goal.returns-then-lite
 returns-then-literals-gt-LITERAL_LIMIT-clause-fault g c =
     let whole = c.if-not-is_whole.ensures.0 refl in
     let clauses = g.S.ClauseSink.taken c.args.body.sink in
-    counted_right c.args.header c.args.last clauses c.args.body.unclosed.items whole.0 whole.1 ∙ sym (sized_large c.args.header.vars clauses c.literal_count-literals.result c.literal_count-literals.ensures c.if-literals-gt-LITERAL_LIMIT.true)
+    counted_right c.args.header c.args.last clauses c.args.body.unclosed.items whole.0 whole.1
+    ∙ sym (sized_large c.args.header.vars clauses c.literal_count-literals.result c.literal_count-literals.ensures c.if-literals-gt-LITERAL_LIMIT.true)
 
 pub returns-clause-formula : goal.returns-clause-formula
 returns-clause-formula g c =
     let whole = c.if-not-is_whole.ensures.0 refl in
     let clauses = g.S.ClauseSink.taken c.args.body.sink in
-    rw c.requires (counted_right c.args.header c.args.last clauses c.args.body.unclosed.items whole.0 whole.1 ∙ sym (sized_small c.args.header.vars clauses c.literal_count-literals.result c.literal_count-literals.ensures c.if-literals-gt-LITERAL_LIMIT.false))
+    rw c.requires (counted_right c.args.header c.args.last clauses c.args.body.unclosed.items whole.0 whole.1
+    ∙ sym (sized_small c.args.header.vars clauses c.literal_count-literals.result c.literal_count-literals.ensures c.if-literals-gt-LITERAL_LIMIT.false))

@@ -11,7 +11,8 @@ found name [] = refl
 found name (row ∷ rows) = go (bytes_eq row.name.now name) (found name rows)
   where
     go : (t : Bool) → option_map form_of_row (find (λ row. bytes_eq row.name.now name) rows) ≡ find (λ form. bytes_eq form.name name) (map form_of_row rows)
-        → option_map form_of_row (if t then Some row else find (λ row. bytes_eq row.name.now name) rows) ≡ (if t then Some (form_of_row row) else find (λ form. bytes_eq form.name name) (map form_of_row rows))
+        → option_map form_of_row
+        (if t then Some row else find (λ row. bytes_eq row.name.now name) rows) ≡ (if t then Some (form_of_row row) else find (λ form. bytes_eq form.name name) (map form_of_row rows))
     go true rest = refl
     go false rest = rest
 

@@ -13,10 +13,12 @@ returns-then-index-clause-marked c = λ net edits before finds marked.
     let flags : List Bool = c.args.chosen.now.items in
     let read : get_or flags c.in-Some.place c.index.result.now ≡ true = search rules in
     let flag : get_or flags c.in-Some.place false ≡ true = get_or_default flags c.in-Some.place false c.index.result.now fits ∙ read in
-    names_twice net edits before c.args.line.now flags c.in-Some.place (sym c.is_blank_line.ensures ∙ c.if-is_blank_line.false) is (place_within net edits c.args.line.now c.in-Some.place is) flag marked
+    names_twice net edits before c.args.line.now flags c.in-Some.place (sym c.is_blank_line.ensures ∙ c.if-is_blank_line.false) is
+    (place_within net edits c.args.line.now c.in-Some.place is) flag marked
 
 pub returns-clause-marked : goal.returns-clause-marked
 returns-clause-marked c = λ net edits before finds marked.
     let is : edit_of net edits c.args.line.now ≡ Some c.in-Some.place = sym (finds c.args.line.now) ∙ (sym c.get.ensures ∙ c.in-Some.is) in
     let flag : get_or c.args.chosen.now.items c.in-Some.place false ≡ false = search rules in
-    one_marked net edits before c.args.line.now c.args.chosen.now.items c.in-Some.place (sym c.is_blank_line.ensures ∙ c.if-is_blank_line.false) is (place_within net edits c.args.line.now c.in-Some.place is) flag marked
+    one_marked net edits before c.args.line.now c.args.chosen.now.items c.in-Some.place (sym c.is_blank_line.ensures ∙ c.if-is_blank_line.false) is
+    (place_within net edits c.args.line.now c.in-Some.place is) flag marked

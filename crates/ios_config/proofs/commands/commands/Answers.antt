@@ -16,7 +16,11 @@ use Rattle.ios_config.proofs.commands.commands.Goals as goal
 use Rattle.ios_config.proofs.commands.commands.Goals.{then-not-line+in_ok-c+in_ok-push, else-not-line}
 
 pub loop-place-init : goal.loop-place-init
-loop-place-init c = record { read = subst (λ (l : List FileCommand). AllZip (IsReadAs c.args.text.now c.args.lines.now) [] l) (sym c.new-commands.ensures.items) tt; known = knows_none c.args.text.now c.args.lines.now kinds.Top }
+loop-place-init c = record {
+  read = subst (λ (l : List FileCommand). AllZip (IsReadAs c.args.text.now c.args.lines.now) [] l) (sym c.new-commands.ensures.items) tt;
+  known =
+      knows_none c.args.text.now c.args.lines.now kinds.Top;
+}
 
 pub read-requires : goal.read-requires
 read-requires c =

@@ -36,5 +36,6 @@ loop-command-preserved c =
       | else-new w ↦
           joins cs k ks ls c.part_of.result gs c.loop-command.invariant c.part_of.ensures c.in_ok-place.ensures.keys
           hs c.in_ok-place.place c.in_ok-place.ensures.index (found ∙ ap not w.if-new.false)
-          (subst (λ (v : Vec (Vec (Bor FileCommand) Global) Global). group_list hs ≡ set (group_list v.items) c.in_ok-place.place (get_or (group_list v.items) c.in_ok-place.place [] ++ k ∷ [])) w.groups-is c.in_ok-add.ensures)
+          (subst (λ (v : Vec (Vec (Bor FileCommand) Global) Global). group_list hs ≡ set (group_list v.items) c.in_ok-place.place
+          (get_or (group_list v.items) c.in_ok-place.place [] ++ k ∷ [])) w.groups-is c.in_ok-add.ensures)
     ])

@@ -20,7 +20,8 @@ loop-at-preserved c =
           (join-more text c.loop-at.at c.loop-at.state c.in_ok-line.after line c.loop-at.rows next c.loop-at.invariant.join rest (subst (λ end. Join text (line.span.to + end) rest) from joined));
       texts = ap (bytes_of text) new ∙ texts-more text c.loop-at.at c.loop-at.state c.in_ok-line.after line c.loop-at.rows next c.loop-at.invariant.texts;
       inside = subst (All (HasWordsIn text)) (sym new) (inside-more text c.loop-at.at c.loop-at.state c.in_ok-line.after line c.loop-at.rows next c.loop-at.invariant.inside);
-      rows = λ place l is. rows-more text c.loop-at.at c.loop-at.state c.in_ok-line.after line c.loop-at.rows next rows c.loop-at.invariant.rows place l (sym (ap (λ rows. slice_get rows place) new) ∙ is);
+      rows = λ place l is. rows-more text c.loop-at.at c.loop-at.state c.in_ok-line.after line c.loop-at.rows next rows c.loop-at.invariant.rows place l
+          (sym (ap (λ rows. slice_get rows place) new) ∙ is);
     }
 
 pub returns-in-Some-clause-fault : goal.returns-in-Some-clause-fault
@@ -31,7 +32,8 @@ returns-in-Some-clause-fault c = (
 
 pub returns-in-None-clause-lines : goal.returns-in-None-clause-lines
 returns-in-None-clause-lines c =
-    are-lines c.args.bytes.now c.loop-at.at c.loop-at.state c.loop-at.invariant.stands c.loop-at-test.false c.loop-at.rows c.loop-at.invariant.join c.loop-at.invariant.texts c.loop-at.invariant.inside c.loop-at.invariant.rows
+    are-lines c.args.bytes.now c.loop-at.at c.loop-at.state c.loop-at.invariant.stands c.loop-at-test.false c.loop-at.rows c.loop-at.invariant.join
+    c.loop-at.invariant.texts c.loop-at.invariant.inside c.loop-at.invariant.rows
 
 pub returns-in-None-clause-no_orphan : goal.returns-in-None-clause-no_orphan
 returns-in-None-clause-no_orphan c = λ ok. no-orphans c.args.bytes.now c.loop-at.at c.loop-at.state c.loop-at.invariant.stands c.loop-at-test.false

@@ -4,7 +4,8 @@ use Rattle.ios_lines.proofs.reading.next_line.Goals as goal
 
 pub returns-then-is_alone-clause-fault : goal.returns-then-is_alone-clause-fault
 returns-then-is_alone-clause-fault c =
-    orphan-here c.args.bytes.now c.args.at c.line_end-to.result.0 c.line_end-to.result.1 c.args.state c.kind_within-kind.result c.requires.more c.requires.stands c.line_end-to.ensures c.kind_within-kind.ensures
+    orphan-here c.args.bytes.now c.args.at c.line_end-to.result.0 c.line_end-to.result.1 c.args.state c.kind_within-kind.result c.requires.more
+    c.requires.stands c.line_end-to.ensures c.kind_within-kind.ensures
     (sym c.is_alone.ensures ∙ c.if-is_alone.true)
 
 pub returns-clause-next : goal.returns-clause-next

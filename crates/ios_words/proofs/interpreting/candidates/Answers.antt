@@ -9,4 +9,5 @@ pub returns-in-Top-clause-same : goal.returns-in-Top-clause-same
 returns-in-Top-clause-same c = in_block (words_of c.args.words) (map rule_of c.top_candidates.result.now) c.args.within blocks.Top c.in-Top.is c.top_candidates.ensures.same
 
 pub returns-in-Interface-clause-same : goal.returns-in-Interface-clause-same
-returns-in-Interface-clause-same c = in_block (words_of c.args.words) (map rule_of c.interface_candidates.result.now) c.args.within blocks.Interface c.in-Interface.is c.interface_candidates.ensures.same
+returns-in-Interface-clause-same c = in_block (words_of c.args.words)
+    (map rule_of c.interface_candidates.result.now) c.args.within blocks.Interface c.in-Interface.is c.interface_candidates.ensures.same

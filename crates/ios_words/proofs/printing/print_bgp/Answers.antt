@@ -14,7 +14,8 @@ returns-in-RemoteAs c =
 pub returns-in-NeighborList : goal.returns-in-NeighborList
 returns-in-NeighborList c =
     let Adds : List (List ℕ) → Type 0 = λ ws. OnOk c.push_words-in-NeighborList.result (c.push_words-in-NeighborList.new.text.items ≡ c.args.text.now.items ++ spaced ws) in
-    let added = subst (λ (name : List ℕ). Adds (codes "neighbor" ∷ address_text c.in-NeighborList.peer ∷ codes "prefix-list" ∷ name ∷ codes "in" ∷ [])) c.bytes.ensures c.push_words-in-NeighborList.ensures in
+    let added = subst (λ (name : List ℕ). Adds (codes "neighbor" ∷ address_text c.in-NeighborList.peer ∷ codes "prefix-list" ∷ name ∷ codes "in" ∷ [])) c.bytes.ensures
+    c.push_words-in-NeighborList.ensures in
     subst (λ (k : Command). OnOk c.push_words-in-NeighborList.result (c.push_words-in-NeighborList.new.text.items ≡ c.args.text.now.items ++ plain_line blocks.Bgp k)) (sym c.in-NeighborList.is) added
 
 pub returns-in-RouterId : goal.returns-in-RouterId

@@ -7,4 +7,5 @@ use Rattle.ios_words.proofs.trying.try_rows.Given as goal
 
 abbrev pub invariant-loop-row : goal.invariant-loop-row
 invariant-loop-row l =
-    (try_rules l.extended (words_of l.fn.words) None (map rule_of l.fn.rows) ≡ try_rules l.extended (words_of l.words) l.first (map rule_of (drop l.row-index l.rows))) × IsTrue (list_all is_short (map rule_of (drop l.row-index l.rows)))
+    (try_rules l.extended (words_of l.fn.words) None (map rule_of l.fn.rows) ≡ try_rules l.extended (words_of l.words) l.first
+    (map rule_of (drop l.row-index l.rows))) × IsTrue (list_all is_short (map rule_of (drop l.row-index l.rows)))

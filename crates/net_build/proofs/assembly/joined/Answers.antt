@@ -13,7 +13,8 @@ Done done = Unit {0}
 pub returns-in_err-links : goal.returns-in_err-links
 returns-in_err-links c = λ most.
     let p = err_from_is_err_and c.from_residual-in_err-links.result c.from_residual-in_err-links.ensures.1 in
-    rw (p.1, p.2) (first_fails (RefusesWithin c.args.down.now most c.args.doc.now c.args.configs.now) LinkFace (DownLinks ∷ NeighborUnknown ∷ NetworkNotConnected ∷ []) (AllZip (IsLinkRow (full_names c.args.configs.now)) c.args.doc.now.links) (AreRows c.args.doc.now c.args.configs.now)
+    rw (p.1, p.2) (first_fails (RefusesWithin c.args.down.now most c.args.doc.now c.args.configs.now) LinkFace (DownLinks ∷ NeighborUnknown ∷ NetworkNotConnected ∷ [])
+    (AllZip (IsLinkRow (full_names c.args.configs.now)) c.args.doc.now.links) (AreRows c.args.doc.now c.args.configs.now)
     c.in_err-links.field-0.0 c.in_err-links.ensures.tried)
 
 pub returns-in_err-try_down_links : goal.returns-in_err-try_down_links
@@ -42,7 +43,8 @@ returns-in_err-try_networks c = λ most.
     let Right = AreRows c.args.doc.now c.args.configs.now in
     let fault = c.in_err-try_networks.field-0.0 in
     let base : AreBaseRows c.args.doc.now c.args.configs.now c.in_ok-net.net = c.in_ok-net.ensures c.args.doc.now c.in_ok-links.ensures.ends c.in_ok-links.ensures.tried.1 in
-    rw (p.1, p.2) (clear_before Makes (LinkFace ∷ DownLinks ∷ NeighborUnknown ∷ []) (NetworkNotConnected ∷ []) Right (Err fault) (c.in_ok-links.ensures.tried.0, (c.in_ok-try_down_links.ensures.0, ((c.in_ok-try_neighbors.ensures c.args.doc.now base).0, tt)))
+    rw (p.1, p.2) (clear_before Makes (LinkFace ∷ DownLinks ∷ NeighborUnknown ∷ []) (NetworkNotConnected ∷ []) Right (Err fault)
+    (c.in_ok-links.ensures.tried.0, (c.in_ok-try_down_links.ensures.0, ((c.in_ok-try_neighbors.ensures c.args.doc.now base).0, tt)))
     (first_fails Makes NetworkNotConnected [] Done Right fault c.in_err-try_networks.ensures))
 
 pub sessions_of-requires-clause-lists : goal.sessions_of-requires-clause-lists

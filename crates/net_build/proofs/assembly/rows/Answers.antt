@@ -14,7 +14,8 @@ returns c = λ doc ends zip. record {
   protocol = c.protocol_of-protocol.ensures;
   routers = c.in_ok-routers.ensures;
   packet_lists = c.in_ok-packet_lists.ensures;
-  faces = subst (λ (names : List FullName). AllZip (IsFaceRow c.protocol_of-protocol.result names (map packet_list_key c.in_ok-packet_lists.packet_lists)) (sites c.args.configs.now) c.in_ok-faces.faces) ends c.in_ok-faces.ensures;
+  faces = subst (λ (names : List FullName). AllZip (IsFaceRow c.protocol_of-protocol.result names (map packet_list_key c.in_ok-packet_lists.packet_lists))
+      (sites c.args.configs.now) c.in_ok-faces.faces) ends c.in_ok-faces.ensures;
   links = zip;
   route_lists = c.in_ok-route_lists.ensures;
 }

@@ -42,7 +42,8 @@ try_adjacency-requires-clause-named c = names_distinct c.args.configs.now c.requ
 
 pub try_endpoints-requires-clause-valid : goal.try_endpoints-requires-clause-valid
 try_endpoints-requires-clause-valid c =
-    valid_network c.args.doc.now c.args.configs.now c.args.net.now c.requires.rows c.requires.well_formed c.requires.named c.requires.joined c.in_ok-try_interfaces.ensures.0 c.in_ok-try_overlap.ensures.clear c.requires.few c.requires.links
+    valid_network c.args.doc.now c.args.configs.now c.args.net.now c.requires.rows c.requires.well_formed c.requires.named c.requires.joined
+    c.in_ok-try_interfaces.ensures.0 c.in_ok-try_overlap.ensures.clear c.requires.few c.requires.links
 
 pub returns-in_err-try_overlap-clause-answer : goal.returns-in_err-try_overlap-clause-answer
 returns-in_err-try_overlap-clause-answer c = λ down.
@@ -51,7 +52,8 @@ returns-in_err-try_overlap-clause-answer c = λ down.
     let Makes = RefusesWithin down c.args.most_entries doc configs in
     let p = err_from_is_err_and c.from_residual.result c.from_residual.ensures.1 in
     let fault = c.in_err-try_overlap.field-0.0 in
-    rw (p.1, p.2) (first_fails Makes Overlap (LinkSubnets ∷ ListStopsSession ∷ AdjacencyForm ∷ Interfaces ∷ Entries ∷ Endpoint ∷ []) Done Done fault (c.in_err-try_overlap.ensures.tried doc c.requires.rows))
+    rw (p.1, p.2) (first_fails Makes Overlap (LinkSubnets ∷ ListStopsSession ∷ AdjacencyForm ∷ Interfaces ∷ Entries ∷ Endpoint ∷ []) Done Done fault
+    (c.in_err-try_overlap.ensures.tried doc c.requires.rows))
 
 pub returns-in_err-try_subnets-clause-answer : goal.returns-in_err-try_subnets-clause-answer
 returns-in_err-try_subnets-clause-answer c = λ down.
@@ -64,7 +66,8 @@ returns-in_err-try_subnets-clause-answer c = λ down.
     let fault = c.in_err-try_subnets.field-0.0 in
     rw (p.1, p.2) (clear_before Makes (Overlap ∷ []) (LinkSubnets ∷ ListStopsSession ∷ AdjacencyForm ∷ Interfaces ∷ Entries ∷ Endpoint ∷ []) Done (Err fault)
     ((c.in_ok-try_overlap.ensures.tried doc c.requires.rows).0, tt)
-    (first_fails Makes LinkSubnets (ListStopsSession ∷ AdjacencyForm ∷ Interfaces ∷ Entries ∷ Endpoint ∷ []) Done Done fault (subnets_tried doc configs net c.requires.rows distinct (Err fault) c.in_err-try_subnets.ensures)))
+    (first_fails Makes LinkSubnets (ListStopsSession ∷ AdjacencyForm ∷ Interfaces ∷ Entries ∷ Endpoint ∷ []) Done Done fault
+    (subnets_tried doc configs net c.requires.rows distinct (Err fault) c.in_err-try_subnets.ensures)))
 
 pub returns-in_err-try_lists-clause-answer : goal.returns-in_err-try_lists-clause-answer
 returns-in_err-try_lists-clause-answer c = λ down.
@@ -88,8 +91,10 @@ returns-in_err-try_adjacency-clause-answer c = λ down.
     let Makes = RefusesWithin down c.args.most_entries doc configs in
     let p = err_from_is_err_and c.from_residual-in_err-try_adjacency.result c.from_residual-in_err-try_adjacency.ensures.1 in
     let fault = c.in_err-try_adjacency.field-0.0 in
-    rw (p.1, p.2) (clear_before Makes (Overlap ∷ LinkSubnets ∷ ListStopsSession ∷ []) (AdjacencyForm ∷ Interfaces ∷ Entries ∷ Endpoint ∷ []) Done (Err fault)
-    ((c.in_ok-try_overlap.ensures.tried doc c.requires.rows).0, ((subnets_tried doc configs net c.requires.rows distinct (Ok tt) c.in_ok-try_subnets.ensures).0, ((c.in_ok-try_lists.ensures doc c.requires.rows).0, tt)))
+    rw (p.1, p.2) (clear_before Makes (Overlap ∷ LinkSubnets ∷ ListStopsSession ∷ []) (AdjacencyForm ∷ Interfaces ∷ Entries ∷ Endpoint ∷ []) Done (Err fault) (
+      (c.in_ok-try_overlap.ensures.tried doc c.requires.rows).0,
+      ((subnets_tried doc configs net c.requires.rows distinct (Ok tt) c.in_ok-try_subnets.ensures).0, ((c.in_ok-try_lists.ensures doc c.requires.rows).0, tt)),
+    )
     (first_fails Makes AdjacencyForm (Interfaces ∷ Entries ∷ Endpoint ∷ []) Done Done fault (c.in_err-try_adjacency.ensures doc c.requires.rows)))
 
 pub returns-in_err-try_interfaces-clause-answer : goal.returns-in_err-try_interfaces-clause-answer
@@ -101,8 +106,13 @@ returns-in_err-try_interfaces-clause-answer c = λ down.
     let Makes = RefusesWithin down c.args.most_entries doc configs in
     let p = err_from_is_err_and c.from_residual-in_err-try_interfaces.result c.from_residual-in_err-try_interfaces.ensures.1 in
     let fault = c.in_err-try_interfaces.field-0.0 in
-    rw (p.1, p.2) (clear_before Makes (Overlap ∷ LinkSubnets ∷ ListStopsSession ∷ AdjacencyForm ∷ []) (Interfaces ∷ Entries ∷ Endpoint ∷ []) Done (Err fault)
-    ((c.in_ok-try_overlap.ensures.tried doc c.requires.rows).0, ((subnets_tried doc configs net c.requires.rows distinct (Ok tt) c.in_ok-try_subnets.ensures).0, ((c.in_ok-try_lists.ensures doc c.requires.rows).0, ((c.in_ok-try_adjacency.ensures doc c.requires.rows).0, tt))))
+    rw (p.1, p.2) (clear_before Makes (Overlap ∷ LinkSubnets ∷ ListStopsSession ∷ AdjacencyForm ∷ []) (Interfaces ∷ Entries ∷ Endpoint ∷ []) Done (Err fault) (
+      (c.in_ok-try_overlap.ensures.tried doc c.requires.rows).0,
+      (
+        (subnets_tried doc configs net c.requires.rows distinct (Ok tt) c.in_ok-try_subnets.ensures).0,
+        ((c.in_ok-try_lists.ensures doc c.requires.rows).0, ((c.in_ok-try_adjacency.ensures doc c.requires.rows).0, tt)),
+      ),
+    )
     (first_fails Makes Interfaces (Entries ∷ Endpoint ∷ []) Done Done fault (c.in_err-try_interfaces.ensures)))
 
 pub returns-in_err-try_entries-clause-answer : goal.returns-in_err-try_entries-clause-answer
@@ -114,8 +124,13 @@ returns-in_err-try_entries-clause-answer c = λ down.
     let Makes = RefusesWithin down c.args.most_entries doc configs in
     let p = err_from_is_err_and c.from_residual-in_err-try_entries.result c.from_residual-in_err-try_entries.ensures.1 in
     let fault = c.in_err-try_entries.field-0.0 in
-    rw (p.1, p.2) (clear_before Makes (Overlap ∷ LinkSubnets ∷ ListStopsSession ∷ AdjacencyForm ∷ Interfaces ∷ []) (Entries ∷ Endpoint ∷ []) Done (Err fault)
-    ((c.in_ok-try_overlap.ensures.tried doc c.requires.rows).0, ((subnets_tried doc configs net c.requires.rows distinct (Ok tt) c.in_ok-try_subnets.ensures).0, ((c.in_ok-try_lists.ensures doc c.requires.rows).0, ((c.in_ok-try_adjacency.ensures doc c.requires.rows).0, ((c.in_ok-try_interfaces.ensures).0, tt)))))
+    rw (p.1, p.2) (clear_before Makes (Overlap ∷ LinkSubnets ∷ ListStopsSession ∷ AdjacencyForm ∷ Interfaces ∷ []) (Entries ∷ Endpoint ∷ []) Done (Err fault) (
+      (c.in_ok-try_overlap.ensures.tried doc c.requires.rows).0,
+      (
+        (subnets_tried doc configs net c.requires.rows distinct (Ok tt) c.in_ok-try_subnets.ensures).0,
+        ((c.in_ok-try_lists.ensures doc c.requires.rows).0, ((c.in_ok-try_adjacency.ensures doc c.requires.rows).0, ((c.in_ok-try_interfaces.ensures).0, tt))),
+      ),
+    )
     (first_fails Makes Entries (Endpoint ∷ []) Done Done fault (c.in_err-try_entries.ensures)))
 
 pub returns-clause-answer : goal.returns-clause-answer
@@ -125,13 +140,19 @@ returns-clause-answer c = λ down.
     let net = c.args.net.now in
     let distinct = names_distinct configs c.requires.named c.requires.well_formed in
     let Makes = RefusesWithin down c.args.most_entries doc configs in
-    clear_before Makes (Overlap ∷ LinkSubnets ∷ ListStopsSession ∷ AdjacencyForm ∷ Interfaces ∷ Entries ∷ []) (Endpoint ∷ []) Done c.try_endpoints.result
-    ((c.in_ok-try_overlap.ensures.tried doc c.requires.rows).0, ((subnets_tried doc configs net c.requires.rows distinct (Ok tt) c.in_ok-try_subnets.ensures).0, ((c.in_ok-try_lists.ensures doc c.requires.rows).0, ((c.in_ok-try_adjacency.ensures doc c.requires.rows).0, ((c.in_ok-try_interfaces.ensures).0, ((c.in_ok-try_entries.ensures).0, tt))))))
+    clear_before Makes (Overlap ∷ LinkSubnets ∷ ListStopsSession ∷ AdjacencyForm ∷ Interfaces ∷ Entries ∷ []) (Endpoint ∷ []) Done c.try_endpoints.result (
+      (c.in_ok-try_overlap.ensures.tried doc c.requires.rows).0,
+      (
+        (subnets_tried doc configs net c.requires.rows distinct (Ok tt) c.in_ok-try_subnets.ensures).0,
+        ((c.in_ok-try_lists.ensures doc c.requires.rows).0, ((c.in_ok-try_adjacency.ensures doc c.requires.rows).0, ((c.in_ok-try_interfaces.ensures).0, ((c.in_ok-try_entries.ensures).0, tt)))),
+      ),
+    )
     (one_decides Makes Endpoint Done c.try_endpoints.result (endpoints_tried doc configs net c.requires.rows distinct c.try_endpoints.result c.try_endpoints.ensures.tried))
 
 pub returns-clause-valid : goal.returns-clause-valid
 returns-clause-valid c =
-    let is : IsValid c.args.net.now = valid_network c.args.doc.now c.args.configs.now c.args.net.now c.requires.rows c.requires.well_formed c.requires.named c.requires.joined c.in_ok-try_interfaces.ensures.0 c.in_ok-try_overlap.ensures.clear c.requires.few c.requires.links in
+    let is : IsValid c.args.net.now = valid_network c.args.doc.now c.args.configs.now c.args.net.now c.requires.rows c.requires.well_formed c.requires.named c.requires.joined
+    c.in_ok-try_interfaces.ensures.0 c.in_ok-try_overlap.ensures.clear c.requires.few c.requires.links in
     on_ok_weaker c.try_endpoints.result (λ ends. is) c.try_endpoints.ensures.ends
 
 pub returns-clause-ends : goal.returns-clause-ends

@@ -23,7 +23,8 @@ pub returns-in_err-try_areas : goal.returns-in_err-try_areas
 returns-in_err-try_areas c = λ down most doc.
     let p = err_from_is_err_and c.from_residual-in_err-try_areas.result c.from_residual-in_err-try_areas.ensures.1 in
     let fault = c.in_err-try_areas.field-0.0 in
-    rw (p.1, p.2) (clear_before (RefusesWithin down most doc c.args.configs.now) (Hostname ∷ Protocol ∷ []) (TwoAreas ∷ SameAs ∷ []) Done (Err fault) (c.in_ok-try_hostnames.ensures.0, (c.in_ok-try_processes.ensures.0, tt))
+    rw (p.1, p.2) (clear_before (RefusesWithin down most doc c.args.configs.now) (Hostname ∷ Protocol ∷ []) (TwoAreas ∷ SameAs ∷ []) Done (Err fault)
+    (c.in_ok-try_hostnames.ensures.0, (c.in_ok-try_processes.ensures.0, tt))
     (first_fails (RefusesWithin down most doc c.args.configs.now) TwoAreas (SameAs ∷ []) Done Done fault c.in_err-try_areas.ensures))
 
 pub returns : goal.returns

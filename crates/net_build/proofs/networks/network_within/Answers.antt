@@ -20,8 +20,9 @@ of_file : (down : List ℕ) (most : ℕ) (doc : Document) (files : List (List �
 of_file down most doc files (Refused r) first = inl first
 of_file down most doc files Memory first = tt
 
--- a refusal of what the files say together
-of_tries : (down : List ℕ) (most : ℕ) (doc : Document) (files : List (List ℕ)) (configs : List Config) → AllZip Says files configs → (fault : NetFault) → Assembles down most doc configs (Err fault) → BuildsWithin down most doc files (Err fault)
+-- a refusal of what the files have together
+of_tries : (down : List ℕ) (most : ℕ) (doc : Document) (files : List (List ℕ)) (configs : List Config) → AllZip Says files configs → (fault : NetFault) →
+    Assembles down most doc configs (Err fault) → BuildsWithin down most doc files (Err fault)
 of_tries down most doc files configs said (Refused r) first = inr (record { configs = configs; said = said; first = first })
 of_tries down most doc files configs said Memory first = tt
 

@@ -20,10 +20,12 @@ returns-in-Some c =
     let found : AddsGiven c.loop-place.ids.keys c.add_given.new.numbers.keys (router_id_of c.config-item.result) (Some c.in-Some.line) =
     subst (λ (number : Option (Given ℕ)). AddsGiven c.loop-place.ids.keys c.add_given.new.numbers.keys number (Some c.in-Some.line)) c.router_id_of.ensures
     (subst (λ (o : Option ℕ). AddsGiven c.loop-place.ids.keys c.add_given.new.numbers.keys c.router_id_of.result o) c.in-Some.is c.in_ok-line.ensures) in
-    let bad = other_number router_id_of items c.loop-place.place c.config-item.result c.loop-place.ids.keys c.add_given.new.numbers.keys c.loop-place.invariant.held c.loop-place.invariant.holds c.in-Some.line found in
+    let bad = other_number router_id_of items c.loop-place.place c.config-item.result c.loop-place.ids.keys c.add_given.new.numbers.keys c.loop-place.invariant.held
+    c.loop-place.invariant.holds c.in-Some.line found in
     tried_refused (InFiles kinds.AdjacencyForm (Repeats router_id_of c.args.configs.now) c.args.configs.now) (λ (done : Unit {0}). Unit {0}) c.in_file.result r c.in_file.ensures
     (subst (λ (configs : List Config). IsFirst (InFiles kinds.AdjacencyForm (Repeats router_id_of configs) configs) r) c.slice-config-items.ensures.items
-    (first_found kinds.AdjacencyForm (Repeats router_id_of items) items c.loop-place.place c.config-item.result c.in-Some.line c.loop-place-test.true c.config-item.is c.loop-place.invariant.clear bad))
+    (first_found kinds.AdjacencyForm (Repeats router_id_of items) items c.loop-place.place c.config-item.result c.in-Some.line c.loop-place-test.true c.config-item.is
+    c.loop-place.invariant.clear bad))
 
 pub loop-place-preserved : goal.loop-place-preserved
 loop-place-preserved c =
@@ -32,9 +34,13 @@ loop-place-preserved c =
     subst (λ (number : Option (Given ℕ)). AddsGiven c.loop-place.ids.keys c.add_given.new.numbers.keys number None) c.router_id_of.ensures
     (subst (λ (o : Option ℕ). AddsGiven c.loop-place.ids.keys c.add_given.new.numbers.keys c.router_id_of.result o) c.in-None.is c.in_ok-line.ensures) in
     record {
-      held = held_more (Gives router_id_of) items c.loop-place.place c.config-item.result c.loop-place-test.true c.config-item.is c.loop-place.ids.keys c.add_given.new.numbers.keys c.loop-place.invariant.held adds.1;
-      holds = holds_more (Gives router_id_of) items c.loop-place.place c.config-item.result c.loop-place-test.true c.config-item.is c.loop-place.ids.keys c.add_given.new.numbers.keys c.loop-place.invariant.holds adds.2 adds.3;
-      clear = clear_more kinds.AdjacencyForm (Repeats router_id_of items) items c.loop-place.place c.config-item.result c.loop-place-test.true c.config-item.is c.loop-place.invariant.clear (own_number router_id_of items c.loop-place.place c.config-item.result c.loop-place.ids.keys c.add_given.new.numbers.keys c.loop-place.invariant.held c.loop-place.invariant.holds adds);
+      held = held_more (Gives router_id_of) items c.loop-place.place c.config-item.result c.loop-place-test.true c.config-item.is c.loop-place.ids.keys c.add_given.new.numbers.keys
+          c.loop-place.invariant.held adds.1;
+      holds = holds_more (Gives router_id_of) items c.loop-place.place c.config-item.result c.loop-place-test.true c.config-item.is c.loop-place.ids.keys c.add_given.new.numbers.keys
+          c.loop-place.invariant.holds adds.2 adds.3;
+      clear = clear_more kinds.AdjacencyForm (Repeats router_id_of items) items c.loop-place.place c.config-item.result c.loop-place-test.true c.config-item.is
+          c.loop-place.invariant.clear
+          (own_number router_id_of items c.loop-place.place c.config-item.result c.loop-place.ids.keys c.add_given.new.numbers.keys c.loop-place.invariant.held c.loop-place.invariant.holds adds);
     }
 
 pub returns : goal.returns

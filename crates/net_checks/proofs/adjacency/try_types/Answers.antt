@@ -22,7 +22,8 @@ returns-then-types_differ c =
     let bad : TypesDiffer c.args.configs.now link = c.types_differ.ensures.0 c.if-types_differ.true in
     tried_refused (InDocument kinds.AdjacencyForm Offends c.args.net.now.links) (λ (done : Unit {0}). Unit {0}) c.in_document.result r c.in_document.ensures
     (subst (λ (links : List LinkRow). IsFirst (InDocument kinds.AdjacencyForm Offends links) r) c.slice-link-items.ensures.items
-    (first_item kinds.AdjacencyForm Offends items c.loop-place.place link c.loop-place-test.true (get_or_default items c.loop-place.place no_link link c.loop-place-test.true) c.loop-place.invariant bad))
+    (first_item kinds.AdjacencyForm Offends items c.loop-place.place link c.loop-place-test.true
+    (get_or_default items c.loop-place.place no_link link c.loop-place-test.true) c.loop-place.invariant bad))
 
 pub loop-place-preserved : goal.loop-place-preserved
 unfolding no_link

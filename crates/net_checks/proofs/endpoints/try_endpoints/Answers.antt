@@ -20,14 +20,17 @@ returns-then-not-has_endpoints-clause-tried c =
     let r : Refusal = record { file = 0; number = c.loop-place.place + 1; kind = kinds.Endpoint } in
     tried_refused (InDocument kinds.Endpoint Offends c.args.doc.now.policies) (λ (done : Unit {0}). Unit {0}) c.in_document.result r c.in_document.ensures
     (subst (λ (policies : List Policy). IsFirst (InDocument kinds.Endpoint Offends policies) r) c.slice-policy-items.ensures.items
-    (bad_item kinds.Endpoint (λ (policy : Policy). HasEndpoints c.args.net.now policy.from policy.to) c.slice-policy-items.result.now c.loop-place.place c.policy-item.result c.loop-place-test.true c.policy-item.is c.has_endpoints.result c.has_endpoints.ensures c.loop-place.invariant.none c.if-not-has_endpoints.true))
+    (bad_item kinds.Endpoint (λ (policy : Policy). HasEndpoints c.args.net.now policy.from policy.to) c.slice-policy-items.result.now c.loop-place.place c.policy-item.result
+    c.loop-place-test.true c.policy-item.is c.has_endpoints.result c.has_endpoints.ensures c.loop-place.invariant.none c.if-not-has_endpoints.true))
 
 pub loop-place-preserved : goal.loop-place-preserved
 loop-place-preserved c =
     let Good : Policy → Type 0 = λ policy. HasEndpoints c.args.net.now policy.from policy.to in
     record {
-      none = good_item kinds.Endpoint Good c.slice-policy-items.result.now c.loop-place.place c.policy-item.result c.loop-place-test.true c.policy-item.is c.has_endpoints.result c.has_endpoints.ensures c.loop-place.invariant.none c.if-not-has_endpoints.false;
-      ends = all_more Good c.slice-policy-items.result.now c.loop-place.place c.policy-item.result c.loop-place-test.true c.policy-item.is c.loop-place.invariant.ends (c.has_endpoints.ensures.0 c.if-not-has_endpoints.false);
+      none = good_item kinds.Endpoint Good c.slice-policy-items.result.now c.loop-place.place c.policy-item.result c.loop-place-test.true c.policy-item.is c.has_endpoints.result
+          c.has_endpoints.ensures c.loop-place.invariant.none c.if-not-has_endpoints.false;
+      ends = all_more Good c.slice-policy-items.result.now c.loop-place.place c.policy-item.result c.loop-place-test.true c.policy-item.is c.loop-place.invariant.ends
+          (c.has_endpoints.ensures.0 c.if-not-has_endpoints.false);
     }
 
 pub returns-clause-tried : goal.returns-clause-tried

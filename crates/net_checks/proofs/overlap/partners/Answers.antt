@@ -22,8 +22,10 @@ loop-link-preserved c =
     let row : LinkRow = get_or items c.loop-link.link-index d in
     let read : slice_get items c.loop-link.link-index ≡ Some row = slice_get-get_or items c.loop-link.link-index d c.loop-link-test.true in
     let apart : AllPairs AreLinksApart items = subst (λ (l : List LinkRow). AllPairs AreLinksApart l) (sym c.slice-link-items.ensures.items) c.requires.apart in
-    let a_all : All (λ (l : LinkRow). l.a.0 < c.args.faces) items = subst (λ (l : List LinkRow). All (λ (x : LinkRow). x.a.0 < c.args.faces) l) (sym c.slice-link-items.ensures.items) c.requires.a_within in
-    let b_all : All (λ (l : LinkRow). l.b.0 < c.args.faces) items = subst (λ (l : List LinkRow). All (λ (x : LinkRow). x.b.0 < c.args.faces) l) (sym c.slice-link-items.ensures.items) c.requires.b_within in
+    let a_all : All (λ (l : LinkRow). l.a.0 < c.args.faces) items =
+    subst (λ (l : List LinkRow). All (λ (x : LinkRow). x.a.0 < c.args.faces) l) (sym c.slice-link-items.ensures.items) c.requires.a_within in
+    let b_all : All (λ (l : LinkRow). l.b.0 < c.args.faces) items =
+    subst (λ (l : List LinkRow). All (λ (x : LinkRow). x.b.0 < c.args.faces) l) (sym c.slice-link-items.ensures.items) c.requires.b_within in
     let a_in : row.a.0 < length c.loop-link.partners.items = omega (arith, a_all c.loop-link.link-index d c.loop-link-test.true, c.loop-link.invariant.long) in
     let b_in : row.b.0 < length c.loop-link.partners.items = omega (arith, b_all c.loop-link.link-index d c.loop-link-test.true, c.loop-link.invariant.long) in
     record {

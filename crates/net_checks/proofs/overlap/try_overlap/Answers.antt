@@ -21,7 +21,8 @@ some_and (Some x) P h = (x, refl, h)
 pub returns-in-None-clause-tried : goal.returns-in-None-clause-tried
 returns-in-None-clause-tried c = λ doc rows.
     let none : (place : ℕ) → ¬ OverlapsEarlier c.args.net.now place =
-    subst (λ (o : Option ℕ). MatchOption o ((place : ℕ) → ¬ OverlapsEarlier c.args.net.now place) (λ place. OverlapsEarlier c.args.net.now place × ((k : ℕ) → k < place → ¬ OverlapsEarlier c.args.net.now k)))
+    subst (λ (o : Option ℕ). MatchOption o ((place : ℕ) → ¬ OverlapsEarlier c.args.net.now place)
+    (λ place. OverlapsEarlier c.args.net.now place × ((k : ℕ) → k < place → ¬ OverlapsEarlier c.args.net.now k)))
     c.in-None.is c.in_ok-first_overlap.ensures.first in
     (none_overlaps doc c.args.configs.now c.requires.named c.args.net.now rows none, tt)
 
@@ -32,23 +33,27 @@ returns-in-None-clause-clear c =
 pub returns-in-None-spot_at-clause-tried : goal.returns-in-None-spot_at-clause-tried
 returns-in-None-spot_at-clause-tried c = λ doc rows.
     let found =
-    subst (λ (o : Option ℕ). MatchOption o ((place : ℕ) → ¬ OverlapsEarlier c.args.net.now place) (λ place. OverlapsEarlier c.args.net.now place × ((k : ℕ) → k < place → ¬ OverlapsEarlier c.args.net.now k)))
+    subst (λ (o : Option ℕ). MatchOption o ((place : ℕ) → ¬ OverlapsEarlier c.args.net.now place)
+    (λ place. OverlapsEarlier c.args.net.now place × ((k : ℕ) → k < place → ¬ OverlapsEarlier c.args.net.now k)))
     c.in-Some.is c.in_ok-first_overlap.ensures.first in
     absurd (omega (arith, slice_get_within c.args.net.now.faces c.in-Some.place found.0.2.g found.0.2.at_j, c.in-None-spot_at.ensures.place, c.requires.sites))
 
 pub returns-in-None-spot_at-clause-clear : goal.returns-in-None-spot_at-clause-clear
 returns-in-None-spot_at-clause-clear c =
     let found =
-    subst (λ (o : Option ℕ). MatchOption o ((place : ℕ) → ¬ OverlapsEarlier c.args.net.now place) (λ place. OverlapsEarlier c.args.net.now place × ((k : ℕ) → k < place → ¬ OverlapsEarlier c.args.net.now k)))
+    subst (λ (o : Option ℕ). MatchOption o ((place : ℕ) → ¬ OverlapsEarlier c.args.net.now place)
+    (λ place. OverlapsEarlier c.args.net.now place × ((k : ℕ) → k < place → ¬ OverlapsEarlier c.args.net.now k)))
     c.in-Some.is c.in_ok-first_overlap.ensures.first in
     absurd (omega (arith, slice_get_within c.args.net.now.faces c.in-Some.place found.0.2.g found.0.2.at_j, c.in-None-spot_at.ensures.place, c.requires.sites))
 
 pub returns-in-Some-spot_at-clause-tried : goal.returns-in-Some-spot_at-clause-tried
 returns-in-Some-spot_at-clause-tried c = λ doc rows.
     let found =
-    subst (λ (o : Option ℕ). MatchOption o ((place : ℕ) → ¬ OverlapsEarlier c.args.net.now place) (λ place. OverlapsEarlier c.args.net.now place × ((k : ℕ) → k < place → ¬ OverlapsEarlier c.args.net.now k)))
+    subst (λ (o : Option ℕ). MatchOption o ((place : ℕ) → ¬ OverlapsEarlier c.args.net.now place)
+    (λ place. OverlapsEarlier c.args.net.now place × ((k : ℕ) → k < place → ¬ OverlapsEarlier c.args.net.now k)))
     c.in-Some.is c.in_ok-first_overlap.ensures.first in
-    let s = some_and (slice_get (sites c.args.configs.now) c.in-Some.place) (λ (site : Site). (site.router ≡ c.in-Some-spot_at.spot.router) × (site.face ≡ c.in-Some-spot_at.spot.face.now)) c.in-Some-spot_at.ensures.place in
+    let s = some_and (slice_get (sites c.args.configs.now) c.in-Some.place)
+    (λ (site : Site). (site.router ≡ c.in-Some-spot_at.spot.router) × (site.face ≡ c.in-Some-spot_at.spot.face.now)) c.in-Some-spot_at.ensures.place in
     let r : Refusal = record { file = c.in-Some-spot_at.spot.router + 1; number = c.address_line.result; kind = kinds.Overlap } in
     let line : c.address_line.result ≡ option_map_or (λ (g : Given ℕ). g.line) s.0.face.addr 0 =
     c.address_line.ensures ∙ ap (λ (f : FaceText). option_map_or (λ (g : Given ℕ). g.line) f.addr 0) (sym s.2.1) in

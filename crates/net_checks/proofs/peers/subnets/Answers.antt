@@ -12,7 +12,8 @@ loop-face-init c = no_subnets c.new-subnets.result.keys c.new-subnets.ensures.em
 
 pub add_subnet-requires : goal.add_subnet-requires
 add_subnet-requires c =
-    item_of_all IsWellFormedFace c.slice-face-items.result.now c.args.faces.now c.loop-face.face-index c.face-item.result c.loop-face-test.true c.face-item.is c.slice-face-items.ensures.items c.requires
+    item_of_all IsWellFormedFace c.slice-face-items.result.now c.args.faces.now c.loop-face.face-index c.face-item.result c.loop-face-test.true c.face-item.is
+    c.slice-face-items.ensures.items c.requires
 
 pub loop-face-preserved : goal.loop-face-preserved
 loop-face-preserved c = λ p.

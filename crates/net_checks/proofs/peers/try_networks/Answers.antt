@@ -17,7 +17,8 @@ Offends place config line = Any (TellsUnconnected config line) (lines_of config)
 
 pub unconnected-requires : goal.unconnected-requires
 unconnected-requires c =
-    item_of_all IsWellFormed c.slice-config-items.result.now c.args.configs.now c.loop-place.place c.config-item.result c.loop-place-test.true c.config-item.is c.slice-config-items.ensures.items c.requires.well_formed
+    item_of_all IsWellFormed c.slice-config-items.result.now c.args.configs.now c.loop-place.place c.config-item.result c.loop-place-test.true c.config-item.is
+    c.slice-config-items.ensures.items c.requires.well_formed
 
 pub returns-in-Some : goal.returns-in-Some
 returns-in-Some c =

@@ -11,7 +11,8 @@ pub loop-line-preserved : goal.loop-line-preserved
 loop-line-preserved c =
     let items : List (Given Command) = c.lines_of-line-items.result.now in
     subst (λ (found : Option ℕ). FindsLeast (LinesTo (TellsUnconnected c.args.config.now) items (c.loop-line.line-index + 1)) found) (sym c.lesser-least.ensures)
-    (least_more (TellsUnconnected c.args.config.now) items c.loop-line.line-index c.line-item.result c.loop-line.least c.tells_unconnected.result c.loop-line-test.true c.line-item.is c.loop-line.invariant (c.tells_unconnected.ensures c.args.config.now c.in_ok-subnets.ensures))
+    (least_more (TellsUnconnected c.args.config.now) items c.loop-line.line-index c.line-item.result c.loop-line.least c.tells_unconnected.result c.loop-line-test.true c.line-item.is
+    c.loop-line.invariant (c.tells_unconnected.ensures c.args.config.now c.in_ok-subnets.ensures))
 
 pub returns : goal.returns
 returns c =

@@ -10,7 +10,8 @@ pub loop-face-preserved : goal.loop-face-preserved
 loop-face-preserved c =
     let items : List FaceText = c.slice-face-items.result.now in
     subst (λ (found : Option ℕ). FindsLeast (LinesTo (NamesOtherProcess c.args.process.now) items (c.loop-face.face-index + 1)) found) (sym c.lesser-line.ensures)
-    (least_more (NamesOtherProcess c.args.process.now) items c.loop-face.face-index c.face-item.result c.loop-face.line c.names_other.result c.loop-face-test.true c.face-item.is c.loop-face.invariant c.names_other.ensures)
+    (least_more (NamesOtherProcess c.args.process.now) items c.loop-face.face-index c.face-item.result c.loop-face.line c.names_other.result c.loop-face-test.true c.face-item.is
+    c.loop-face.invariant c.names_other.ensures)
 
 pub returns : goal.returns
 returns c =

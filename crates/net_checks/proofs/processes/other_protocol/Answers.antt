@@ -10,7 +10,8 @@ pub loop-process-preserved : goal.loop-process-preserved
 loop-process-preserved c =
     let items : List ProcessText = c.slice-process-items.result.now in
     subst (λ (found : Option ℕ). FindsLeast (LinesTo (RunsOther c.args.protocol) items (c.loop-process.process-index + 1)) found) (sym c.lesser-line.ensures)
-    (least_more (RunsOther c.args.protocol) items c.loop-process.process-index c.process-item.result c.loop-process.line c.runs_other.result c.loop-process-test.true c.process-item.is c.loop-process.invariant c.runs_other.ensures)
+    (least_more (RunsOther c.args.protocol) items c.loop-process.process-index c.process-item.result c.loop-process.line c.runs_other.result c.loop-process-test.true c.process-item.is
+    c.loop-process.invariant c.runs_other.ensures)
 
 pub returns : goal.returns
 returns c =

@@ -15,7 +15,8 @@ returns-in-Some c =
     tried_refused (RefusesProtocol c.args.configs.now) (λ (done : Unit {0}). Unit {0}) c.in_file.result r c.in_file.ensures
     (subst (λ (configs : List Config). IsFirst (RefusesProtocol configs) r) c.slice-config-items.ensures.items
     (first_found kinds.Protocol (HasNoOwnProcess items) items c.loop-place.place c.config-item.result c.in-Some.line c.loop-place-test.true c.config-item.is c.loop-place.invariant
-    (least_wrong items c.args.configs.now c.protocol_of-protocol.result c.slice-config-items.ensures.items c.protocol_of-protocol.ensures c.loop-place.place c.config-item.result c.in-Some.line c.in-Some.ensures)))
+    (least_wrong items c.args.configs.now c.protocol_of-protocol.result c.slice-config-items.ensures.items c.protocol_of-protocol.ensures c.loop-place.place c.config-item.result
+    c.in-Some.line c.in-Some.ensures)))
 
 pub loop-place-preserved : goal.loop-place-preserved
 loop-place-preserved c =

@@ -6,9 +6,15 @@ use Rattle.net_checks.proofs.repeats.add_given.Goals as goal
 
 pub returns-then-new : goal.returns-then-new
 returns-then-new c =
-    let said = at_true _ _ _ c.if-new.true (inserted_number c.args.numbers.now.keys c.insert_full.new.self.keys c.in-Some.given.value c.in_ok-_place.new c.in_ok-_place.ensures.added c.in_ok-_place.ensures.keys) in
+    let said = at_true _ _ _ c.if-new.true
+    (inserted_number c.args.numbers.now.keys c.insert_full.new.self.keys c.in-Some.given.value c.in_ok-_place.new c.in_ok-_place.ensures.added c.in_ok-_place.ensures.keys) in
     number_added c.args.numbers.now.keys c.insert_full.new.self.keys c.args.number c.in-Some.given c.in-Some.is said.0 said.1
 
 pub returns : goal.returns
-returns c =
-    (c.in-Some.given, c.in-Some.is, refl, at_false _ _ _ c.if-new.false (inserted_number c.args.numbers.now.keys c.insert_full.new.self.keys c.in-Some.given.value c.in_ok-_place.new c.in_ok-_place.ensures.added c.in_ok-_place.ensures.keys))
+returns c = (
+  c.in-Some.given,
+  c.in-Some.is,
+  refl,
+  at_false _ _ _ c.if-new.false
+      (inserted_number c.args.numbers.now.keys c.insert_full.new.self.keys c.in-Some.given.value c.in_ok-_place.new c.in_ok-_place.ensures.added c.in_ok-_place.ensures.keys),
+)

@@ -18,7 +18,8 @@ returns-in-Some c =
     let r : Refusal = record { file = c.loop-place.place + 1; number = c.in-Some.line; kind = kinds.Hostname } in
     let found : AddsName (map text c.loop-place.names.keys) (map text c.add_hostname.new.names.keys) c.config-item.result.hostname (Some c.in-Some.line) =
     subst (λ (o : Option ℕ). AddsName (map text c.loop-place.names.keys) (map text c.add_hostname.new.names.keys) c.config-item.result.hostname o) c.in-Some.is c.in_ok-line.ensures in
-    let bad = other_name items c.loop-place.place c.config-item.result c.loop-place-test.true c.config-item.is (map text c.loop-place.names.keys) (map text c.add_hostname.new.names.keys) c.loop-place.invariant.names c.loop-place.invariant.named c.in-Some.line found in
+    let bad = other_name items c.loop-place.place c.config-item.result c.loop-place-test.true c.config-item.is (map text c.loop-place.names.keys)
+    (map text c.add_hostname.new.names.keys) c.loop-place.invariant.names c.loop-place.invariant.named c.in-Some.line found in
     tried_refused (RefusesHostname c.args.configs.now) (λ (done : Unit {0}). Unit {0}) c.in_file.result r c.in_file.ensures
     (subst (λ (configs : List Config). IsFirst (RefusesHostname configs) r) c.slice-config-items.ensures.items
     (first_found kinds.Hostname (HasNoOwnName items) items c.loop-place.place c.config-item.result c.in-Some.line c.loop-place-test.true c.config-item.is c.loop-place.invariant.clear bad))
@@ -29,9 +30,13 @@ loop-place-preserved c =
     let adds : AddsName (map text c.loop-place.names.keys) (map text c.add_hostname.new.names.keys) c.config-item.result.hostname None =
     subst (λ (o : Option ℕ). AddsName (map text c.loop-place.names.keys) (map text c.add_hostname.new.names.keys) c.config-item.result.hostname o) c.in-None.is c.in_ok-line.ensures in
     record {
-      names = names_more items c.loop-place.place c.config-item.result c.loop-place-test.true c.config-item.is (map text c.loop-place.names.keys) (map text c.add_hostname.new.names.keys) c.loop-place.invariant.names c.loop-place.invariant.named adds;
-      named = named_more items c.loop-place.place c.config-item.result c.loop-place-test.true c.config-item.is (map text c.loop-place.names.keys) (map text c.add_hostname.new.names.keys) c.loop-place.invariant.names c.loop-place.invariant.named adds;
-      clear = clear_more kinds.Hostname (HasNoOwnName items) items c.loop-place.place c.config-item.result c.loop-place-test.true c.config-item.is c.loop-place.invariant.clear (own_name items c.loop-place.place c.config-item.result c.loop-place-test.true c.config-item.is (map text c.loop-place.names.keys) (map text c.add_hostname.new.names.keys) c.loop-place.invariant.names c.loop-place.invariant.named adds);
+      names = names_more items c.loop-place.place c.config-item.result c.loop-place-test.true c.config-item.is (map text c.loop-place.names.keys)
+          (map text c.add_hostname.new.names.keys) c.loop-place.invariant.names c.loop-place.invariant.named adds;
+      named = named_more items c.loop-place.place c.config-item.result c.loop-place-test.true c.config-item.is (map text c.loop-place.names.keys)
+          (map text c.add_hostname.new.names.keys) c.loop-place.invariant.names c.loop-place.invariant.named adds;
+      clear = clear_more kinds.Hostname (HasNoOwnName items) items c.loop-place.place c.config-item.result c.loop-place-test.true c.config-item.is c.loop-place.invariant.clear
+          (own_name items c.loop-place.place c.config-item.result c.loop-place-test.true c.config-item.is (map text c.loop-place.names.keys)
+          (map text c.add_hostname.new.names.keys) c.loop-place.invariant.names c.loop-place.invariant.named adds);
     }
 
 pub returns : goal.returns

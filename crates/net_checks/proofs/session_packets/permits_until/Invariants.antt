@@ -7,5 +7,6 @@ abbrev pub invariant-loop-entry : goal.invariant-loop-entry
 invariant-loop-entry l = record {
   later : l.packet.service < l.next;
   end : l.next ≤ l.end;
-  rest : (service : ℕ) → l.packet.service ≤ service → service < l.next → permits l.list.entries (at_service l.packet service) ≡ permits (drop l.entry-index l.list.entries) (at_service l.packet service);
+  rest : (service : ℕ) → l.packet.service ≤ service → service < l.next →
+      permits l.list.entries (at_service l.packet service) ≡ permits (drop l.entry-index l.list.entries) (at_service l.packet service);
 }

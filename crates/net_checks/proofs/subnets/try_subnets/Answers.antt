@@ -22,7 +22,8 @@ returns-then-not-fits_subnets c =
     let bad : ¬ FitsSubnets c.args.net.now link = λ fits. false≢true (sym c.if-not-fits_subnets.true ∙ c.fits_subnets.ensures.1 fits) in
     tried_refused (InDocument kinds.LinkSubnets Offends c.args.net.now.links) (λ (done : Unit {0}). Unit {0}) c.in_document.result r c.in_document.ensures
     (subst (λ (links : List LinkRow). IsFirst (InDocument kinds.LinkSubnets Offends links) r) c.slice-link-items.ensures.items
-    (first_item kinds.LinkSubnets Offends items c.loop-place.place link c.loop-place-test.true (get_or_default items c.loop-place.place no_link link c.loop-place-test.true) c.loop-place.invariant bad))
+    (first_item kinds.LinkSubnets Offends items c.loop-place.place link c.loop-place-test.true
+    (get_or_default items c.loop-place.place no_link link c.loop-place-test.true) c.loop-place.invariant bad))
 
 pub loop-place-preserved : goal.loop-place-preserved
 unfolding no_link
@@ -31,7 +32,8 @@ loop-place-preserved c =
     let link : LinkRow = get_or items c.loop-place.place no_link in
     let Offends : ℕ → LinkRow → Type 0 = λ place link. ¬ FitsSubnets c.args.net.now link in
     let good : FitsSubnets c.args.net.now link = c.fits_subnets.ensures.0 c.if-not-fits_subnets.false in
-    none_more kinds.LinkSubnets Offends items c.loop-place.place link c.loop-place-test.true (get_or_default items c.loop-place.place no_link link c.loop-place-test.true) c.loop-place.invariant (λ bad. bad good)
+    none_more kinds.LinkSubnets Offends items c.loop-place.place link c.loop-place-test.true
+    (get_or_default items c.loop-place.place no_link link c.loop-place-test.true) c.loop-place.invariant (λ bad. bad good)
 
 pub returns : goal.returns
 returns c =

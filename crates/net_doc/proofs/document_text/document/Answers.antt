@@ -12,17 +12,20 @@ returns-in-Err-clause-reads c =
 pub returns-in-Some-clause-reads : goal.returns-in-Some-clause-reads
 returns-in-Some-clause-reads c =
     let found : document_of c.args.bytes.now ≡ Some (document_meant c.in_ok-draft.draft) =
-    read_as c.args.bytes.now (view c.in-Ok.value) c.in-Ok.ensures.ok.0 c.in-Ok.ensures.ok.1 ∙ sym c.in_ok-read_draft.ensures ∙ ap (option_map document_meant) (found_of c.in_ok-read_draft.field-0 c.in_ok-draft.draft _ c.in_ok-draft.ensures.value) in
+    read_as c.args.bytes.now (view c.in-Ok.value) c.in-Ok.ensures.ok.0 c.in-Ok.ensures.ok.1 ∙ sym c.in_ok-read_draft.ensures
+    ∙ ap (option_map document_meant) (found_of c.in_ok-read_draft.field-0 c.in_ok-draft.draft _ c.in_ok-draft.ensures.value) in
     read_within c.args.bytes.now (document_meant c.in_ok-draft.draft) (Some c.in-Some.refusal) found (sym c.in-Some.ensures)
 
 pub returns-clause-reads : goal.returns-clause-reads
 returns-clause-reads c =
     let found : document_of c.args.bytes.now ≡ Some (document_meant c.in_ok-draft.draft) =
-    read_as c.args.bytes.now (view c.in-Ok.value) c.in-Ok.ensures.ok.0 c.in-Ok.ensures.ok.1 ∙ sym c.in_ok-read_draft.ensures ∙ ap (option_map document_meant) (found_of c.in_ok-read_draft.field-0 c.in_ok-draft.draft _ c.in_ok-draft.ensures.value) in
+    read_as c.args.bytes.now (view c.in-Ok.value) c.in-Ok.ensures.ok.0 c.in-Ok.ensures.ok.1 ∙ sym c.in_ok-read_draft.ensures
+    ∙ ap (option_map document_meant) (found_of c.in_ok-read_draft.field-0 c.in_ok-draft.draft _ c.in_ok-draft.ensures.value) in
     read_within c.args.bytes.now (document_meant c.in_ok-draft.draft) None found (sym c.in_default.ensures) ∙ ap Ok (sym c.in_ok-meant.ensures)
 
 pub returns-clause-well_formed : goal.returns-clause-well_formed
 returns-clause-well_formed c =
     let found : document_of c.args.bytes.now ≡ Some (document_meant c.in_ok-draft.draft) =
-    read_as c.args.bytes.now (view c.in-Ok.value) c.in-Ok.ensures.ok.0 c.in-Ok.ensures.ok.1 ∙ sym c.in_ok-read_draft.ensures ∙ ap (option_map document_meant) (found_of c.in_ok-read_draft.field-0 c.in_ok-draft.draft _ c.in_ok-draft.ensures.value) in
+    read_as c.args.bytes.now (view c.in-Ok.value) c.in-Ok.ensures.ok.0 c.in-Ok.ensures.ok.1 ∙ sym c.in_ok-read_draft.ensures
+    ∙ ap (option_map document_meant) (found_of c.in_ok-read_draft.field-0 c.in_ok-draft.draft _ c.in_ok-draft.ensures.value) in
     well_formed c.args.bytes.now c.in_ok-meant.field-0 (read_within c.args.bytes.now (document_meant c.in_ok-draft.draft) None found (sym c.in_default.ensures) ∙ ap Ok (sym c.in_ok-meant.ensures))

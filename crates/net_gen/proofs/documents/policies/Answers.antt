@@ -21,6 +21,7 @@ pub returns : goal.returns
 returns c =
     let n = c.args.routers in
     let end : c.loop-place.place ≡ n = omega (arith, c.loop-place-test.false, c.loop-place.auto.place-end) in
-    let around : AllZip Asks (map (asked_around n) (numbers n)) c.loop-place.policies = subst (λ (k : ℕ). AllZip Asks (map (asked_around n) (numbers k)) c.loop-place.policies) end c.loop-place.invariant.asked in
+    let around : AllZip Asks (map (asked_around n) (numbers n)) c.loop-place.policies =
+    subst (λ (k : ℕ). AllZip Asks (map (asked_around n) (numbers k)) c.loop-place.policies) end c.loop-place.invariant.asked in
     subst (λ (ps : List Policy). AllZip Asks (asked n) ps) (sym c.in_ok-push-2.ensures.ok)
     (AllZip-append Asks (map (asked_around n) (numbers n)) (record { kind = Blocked; source = 1; target = n } ∷ []) c.loop-place.policies (c.policy-2.result ∷ []) around (c.policy-2.ensures, tt))

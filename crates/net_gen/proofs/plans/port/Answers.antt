@@ -7,7 +7,8 @@ use Rattle.net_gen.proofs.plans.port.Goals as goal
 pub loop-place-preserved : goal.loop-place-preserved
 loop-place-preserved c = elim c.if-has_end.branch [
   | then-has_end w ↦ record {
-    counted = w.port-is ∙ ap (λ (n : ℕ). n + 1) c.loop-place.invariant.counted ∙ sym (length_kept (has_end c.args.routers c.args.router) c.loop-place.place (sym c.has_end.ensures ∙ w.if-has_end.true));
+    counted = w.port-is ∙ ap (λ (n : ℕ). n + 1) c.loop-place.invariant.counted
+        ∙ sym (length_kept (has_end c.args.routers c.args.router) c.loop-place.place (sym c.has_end.ensures ∙ w.if-has_end.true));
     few = omega (arith, w.port-is, c.loop-place.invariant.few);
   }
   | else-has_end w ↦ record {

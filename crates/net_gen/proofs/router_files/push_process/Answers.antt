@@ -14,4 +14,5 @@ returns c =
     let one : List ℕ = c.push_command.new.text.items in
     let two : List ℕ = c.push_command-2.new.text.items in
     let second : two ≡ one ++ ended covers_line = c.in_ok-push_command-2.ensures ∙ ap (λ (p : Prefix). one ++ ended (plain_line blocks.Ospf (Covers p 0))) c.whole.ensures in
-    four_parts start one two c.extend_from_slice.new.self.items start (ended process_line) (ended covers_line) (codes "!\nend\n") refl c.in_ok-push_command.ensures second c.in_ok-extend_from_slice.ensures.items
+    four_parts start one two c.extend_from_slice.new.self.items start (ended process_line) (ended covers_line)
+    (codes "!\nend\n") refl c.in_ok-push_command.ensures second c.in_ok-extend_from_slice.ensures.items

@@ -8,7 +8,8 @@ use Rattle.net_rules.proofs.NameLists.{mapped_more, mapped_twice}
 use Rattle.net_rules.proofs.names.add_file.Goals as goal
 
 -- a name that is not there already was added
-added : (old new : List FullName) (name : FullName) (fresh : Bool) → ¬ Contains old name → MatchBool fresh ((¬ Contains old name) × (new ≡ old ++ name ∷ [])) (Contains old name) → new ≡ old ++ name ∷ []
+added : (old new : List FullName) (name : FullName) (fresh : Bool) → ¬ Contains old name →
+    MatchBool fresh ((¬ Contains old name) × (new ≡ old ++ name ∷ [])) (Contains old name) → new ≡ old ++ name ∷ []
 added old new name true lacks said = said.1
 added old new name false lacks said = absurd (lacks said)
 

@@ -7,6 +7,7 @@ use Rattle.proof_check.proofs.judging.judge_lines.Goals as goal
 
 pub loop-rest-init : goal.loop-rest-init
 loop-rest-init c = record {
-  outcome = ap (λ (k : Knowledge). log_outcome k 1 (lines c.args.proof.now)) c.in_ok-checker.ensures ∙ ap (λ (tops : List Lit). log_outcome (start c.args.f.now None tops) 1 (lines c.args.proof.now)) c.make.ensures;
+  outcome = ap (λ (k : Knowledge). log_outcome k 1 (lines c.args.proof.now)) c.in_ok-checker.ensures
+      ∙ ap (λ (tops : List Lit). log_outcome (start c.args.f.now None tops) 1 (lines c.args.proof.now)) c.make.ensures;
   number_fits = omega arith;
 }

@@ -8,7 +8,8 @@ returns-clause-front c = λ p h.
     let lits = c.args.lits.now in
     let some : 0 < c.args.place.stop = omega arith in
     let before : c.args.end ≤ c.args.place.start = c.requires.end some in
-    clause_front lits c.copy_within.new.self c.args.end p c.requires.room (omega (arith, c.copy_within.ensures.len)) (ap (take c.args.end) c.copy_within.ensures.after ∙ moved_front lits c.args.place c.args.end c.requires.place before some) h
+    clause_front lits c.copy_within.new.self c.args.end p c.requires.room (omega (arith, c.copy_within.ensures.len))
+    (ap (take c.args.end) c.copy_within.ensures.after ∙ moved_front lits c.args.place c.args.end c.requires.place before some) h
 
 pub returns-clause-back : goal.returns-clause-back
 returns-clause-back c = λ p h.
@@ -16,4 +17,6 @@ returns-clause-back c = λ p h.
     let some : 0 < c.args.place.stop = omega arith in
     let before : c.args.end ≤ c.args.place.start = c.requires.end some in
     let first : c.args.place.start ≤ c.args.place.stop - 1 = c.requires.place.start in
-    clause_back lits c.copy_within.new.self (c.args.end + size c.args.place) p (ap (drop (c.args.end + size c.args.place)) c.copy_within.ensures.after ∙ moved_back lits c.args.place c.args.end c.requires.place before some) (λ stands. let k : c.args.place.stop - 1 ≤ p.start = h stands in omega arith)
+    clause_back lits c.copy_within.new.self (c.args.end + size c.args.place) p
+    (ap (drop (c.args.end + size c.args.place)) c.copy_within.ensures.after ∙ moved_back lits c.args.place c.args.end c.requires.place before some)
+    (λ stands. let k : c.args.place.stop - 1 ≤ p.start = h stands in omega arith)

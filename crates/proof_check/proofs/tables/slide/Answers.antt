@@ -44,7 +44,8 @@ loop-row-preserved c =
       rising = rw front (rising_push 0 end (take i ps) q (omega arith) c.loop-row.invariant.within c.loop-row.invariant.rising moved.start);
       rest_within = rw (back, moved.len) (All-tail (IsPlace count) p (drop (i + 1) ps) places);
       rest_rising = rw (back, next) (rising_lower (max end (p.stop - 1)) (end + size p) (drop (i + 1) ps) ends rises.1);
-      clauses = moved_clauses (clause_at c.loop-row.lits) (clause_at c.move_clause.new.lits) end (p.stop - 1) ps i p q test rest c.loop-row.invariant.within (rising_lower (max end (p.stop - 1)) (p.stop - 1) (drop (i + 1) ps) (omega arith) rises.1) moved.front moved.clause moved.back ∙ c.loop-row.invariant.clauses;
+      clauses = moved_clauses (clause_at c.loop-row.lits) (clause_at c.move_clause.new.lits) end (p.stop - 1) ps i p q test rest c.loop-row.invariant.within
+          (rising_lower (max end (p.stop - 1)) (p.stop - 1) (drop (i + 1) ps) (omega arith) rises.1) moved.front moved.clause moved.back ∙ c.loop-row.invariant.clauses;
       room = rw front (let more = sum_by_push size (take i ps) q in omega (arith, moved.size, c.loop-row.invariant.room));
       end_within = rw (next, moved.len) (omega arith);
     }

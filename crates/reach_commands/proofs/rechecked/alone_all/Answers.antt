@@ -11,7 +11,8 @@ loop-which-preserved c =
     let pushed : c.push.new.self ≡ c.loop-which.found ++ c.in_ok-links.links ∷ [] = c.in_ok-push.ensures.ok in
     record {
       answered = subst (λ (fs : List (Option (List Link))). AllZip (IsAloneAnswer c.args.input.now.net) (take (c.loop-which.which + 1) c.args.input.now.doc.policies) fs) (sym pushed)
-          (AllZip-next (IsAloneAnswer c.args.input.now.net) c.args.input.now.doc.policies c.loop-which.found c.loop-which.which c.in_ok-links.links (omega arith) c.loop-which.invariant.answered c.in_ok-links.ensures.answer);
+          (AllZip-next (IsAloneAnswer c.args.input.now.net) c.args.input.now.doc.policies c.loop-which.found c.loop-which.which c.in_ok-links.links
+          (omega arith) c.loop-which.invariant.answered c.in_ok-links.ensures.answer);
       count = omega (arith, ap length pushed, length-append c.loop-which.found (c.in_ok-links.links ∷ []), c.loop-which.invariant.count);
       last = c.alone_at.ensures.last;
     }

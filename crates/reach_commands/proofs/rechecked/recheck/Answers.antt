@@ -9,7 +9,8 @@ use Rattle.reach_commands.proofs.rechecked.recheck.Goals as goal
 pub returns-in_err-count_classes-clause-answer : goal.returns-in_err-count_classes-clause-answer
 returns-in_err-count_classes-clause-answer g c =
     let p = err_from_is_err_and c.from_residual-in_err-count_classes.result c.from_residual-in_err-count_classes.ensures.1 in
-    rw (p.1, p.2) (classes_stopped (g.S.Store.held c.args.store.now) (g.S.Store.held c.read_document.new.store) (g.S.Store.held c.try_file.new.store) c.in_ok-doc.ensures.reads.same c.in_ok-try_file.ensures.reads.same
+    rw (p.1, p.2) (classes_stopped (g.S.Store.held c.args.store.now) (g.S.Store.held c.read_document.new.store)
+    (g.S.Store.held c.try_file.new.store) c.in_ok-doc.ensures.reads.same c.in_ok-try_file.ensures.reads.same
     c.args.words.now c.in_ok-doc.doc c.in_ok-input.input c.in_err-count_classes.field-0.0
     c.in_ok-doc.ensures.told c.in_ok-try_file.ensures.told c.in_ok-input.ensures.told c.in_err-count_classes.ensures)
 

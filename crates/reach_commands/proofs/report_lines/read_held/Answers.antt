@@ -11,7 +11,8 @@ use Rattle.reach_commands.proofs.report_lines.read_held.Goals as goal
 
 pub returns-clause-told : goal.returns-clause-told
 returns-clause-told g c =
-    text_judged (λ (ls : List (List ℕ)) (held : List Verdict). (text : List ℕ) → HasComeTo c.args.net.now c.args.doc.now text ls c.make-blocks.result → held ≡ held_of c.args.net.now c.args.doc.now text)
+    text_judged (λ (ls : List (List ℕ)) (held : List Verdict). (text : List ℕ) → HasComeTo c.args.net.now c.args.doc.now text ls c.make-blocks.result →
+    held ≡ held_of c.args.net.now c.args.doc.now text)
     (λ (ls : List (List ℕ)) (r : FileRefusal). ⊥) c.args.limit c.args.report.now
     (λ (files : Files) (r : FileRefusal). read_refusal c.args.limit files c.args.report.now ≡ Some r)
     (λ (files : Files) (held : List Verdict). held ≡ held_of c.args.net.now c.args.doc.now (bytes_at files c.args.report.now))

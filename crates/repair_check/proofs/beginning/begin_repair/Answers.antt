@@ -12,7 +12,8 @@ pub returns-in_err-ready-clause-fault : goal.returns-in_err-ready-clause-fault
 returns-in_err-ready-clause-fault c =
     let p = err_from_is_err_and c.from_residual.result c.from_residual.ensures.1 in
     rw (p.1, p.2)
-    (fault_there c.args.net.now c.args.doc.now c.args.list.now (Repaired c.args.price c.args.bound) c.args.bound c.in_err-ready.field-0.0 (inl (c.args.price, refl)) (omega arith) c.in_err-ready.ensures.fault)
+    (fault_there c.args.net.now c.args.doc.now c.args.list.now (Repaired c.args.price c.args.bound) c.args.bound c.in_err-ready.field-0.0 (inl (c.args.price, refl))
+    (omega arith) c.in_err-ready.ensures.fault)
 
 pub returns-clause-leads : goal.returns-clause-leads
 returns-clause-leads c =

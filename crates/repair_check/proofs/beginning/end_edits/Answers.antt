@@ -19,7 +19,9 @@ returns-clause-opened c =
     record {
       priced = λ (bad : IsMispricedClaim c.args.doc.now c.args.list.now c.args.claim).
           elim bad [
-            | inl different ↦ different (subst (λ flags. price_of_flags c.args.doc.now c.args.list.now flags ≡ c.args.claim.price) c.as_slice.ensures.value (sym c.price-cost.ensures ∙ (c.if-cost-from.false ∙ c.from.ensures)))
+            | inl different ↦ different
+                (subst (λ flags. price_of_flags c.args.doc.now c.args.list.now flags ≡ c.args.claim.price) c.as_slice.ensures.value
+                (sym c.price-cost.ensures ∙ (c.if-cost-from.false ∙ c.from.ensures)))
             | inr (inl low) ↦ omega (arith, low, c.if-claimed-bound.false)
             | inr (inr high) ↦ omega (arith, high, ready.few)
           ];
@@ -33,5 +35,6 @@ returns-clause-opened c =
 pub returns-clause-judgeable : goal.returns-clause-judgeable
 returns-clause-judgeable c = record {
   valid = c.in_ok-now.ensures.valid;
-  ends = λ k d within. c.edits_keep_classes.ensures.ends c.args.net.now c.in_ok-now.now (chosen_of c.args.list.now c.as_slice-2.result.now) c.in_ok-now.ensures.after _ (c.requires.judgeable.ends k d within);
+  ends = λ k d within. c.edits_keep_classes.ensures.ends c.args.net.now c.in_ok-now.now (chosen_of c.args.list.now c.as_slice-2.result.now) c.in_ok-now.ensures.after _
+      (c.requires.judgeable.ends k d within);
 }

@@ -8,12 +8,15 @@ returns-in-Head-clause-leads c =
 
 pub returns-in-Blocks-clause-leads : goal.returns-in-Blocks-clause-leads
 returns-in-Blocks-clause-leads c =
-    phase_so c.args.net.now c.args.doc.now c.args.list.now c.args.phase (phases.Blocks c.in-Blocks.blocks) c.args.number c.args.told _ c.in-Blocks.is (c.judge_block.ensures c.args.net.now c.args.list.now)
+    phase_so c.args.net.now c.args.doc.now c.args.list.now c.args.phase (phases.Blocks c.in-Blocks.blocks) c.args.number c.args.told _ c.in-Blocks.is
+    (c.judge_block.ensures c.args.net.now c.args.list.now)
 
 pub returns-in-Ready-clause-leads : goal.returns-in-Ready-clause-leads
 returns-in-Ready-clause-leads c =
-    phase_so c.args.net.now c.args.doc.now c.args.list.now c.args.phase (phases.Ready c.in-Ready.checker) c.args.number c.args.told _ c.in-Ready.is (c.judge_ready.ensures c.args.net.now c.args.doc.now c.args.list.now)
+    phase_so c.args.net.now c.args.doc.now c.args.list.now c.args.phase (phases.Ready c.in-Ready.checker) c.args.number c.args.told _ c.in-Ready.is
+    (c.judge_ready.ensures c.args.net.now c.args.doc.now c.args.list.now)
 
 pub returns-in_ok-judge_log-in-Log-clause-leads : goal.returns-in_ok-judge_log-in-Log-clause-leads
 returns-in_ok-judge_log-in-Log-clause-leads c =
-    phase_so c.args.net.now c.args.doc.now c.args.list.now c.args.phase (phases.Log c.in-Log.needs c.in-Log.checker) c.args.number c.args.told _ c.in-Log.is (c.in_ok-judge_log-in-Log.ensures c.args.net.now c.args.doc.now c.args.list.now)
+    phase_so c.args.net.now c.args.doc.now c.args.list.now c.args.phase (phases.Log c.in-Log.needs c.in-Log.checker) c.args.number c.args.told _ c.in-Log.is
+    (c.in_ok-judge_log-in-Log.ensures c.args.net.now c.args.doc.now c.args.list.now)

@@ -9,5 +9,6 @@ pub returns-then-not-is_right_at : goal.returns-then-not-is_right_at
 returns-then-not-is_right_at c net list =
     wrong_leads net c.args.doc.now list c.args.blocks c.args.number c.args.which c.args.verdict.now _ c.rejected.ensures
     (λ right.
-    let here : IsRightAt c.args.blocks.now c.slice.result.now c.args.which c.args.verdict.now = subst (λ (l : List Policy). IsRightAt c.args.blocks.now l c.args.which c.args.verdict.now) (sym c.slice.ensures.items) right in
+    let here : IsRightAt c.args.blocks.now c.slice.result.now c.args.which c.args.verdict.now =
+    subst (λ (l : List Policy). IsRightAt c.args.blocks.now l c.args.which c.args.verdict.now) (sym c.slice.ensures.items) right in
     false≢true (sym c.if-not-is_right_at.true ∙ c.is_right_at.ensures.1 here))

@@ -17,7 +17,8 @@ pub returns-in-Err-clause-reads : goal.returns-in-Err-clause-reads
 returns-in-Err-clause-reads g c = record {
   same = c.in_ok-sources.ensures.reads.same ∙ c.in_ok-doc.ensures.reads.same;
   cause = stop_cause _ _ _ c.args.words.now.document c.in-Err.fault c.fault_stop.result c.fault_stop.ensures;
-  failed = stood _ _ (c.in_ok-sources.ensures.reads.failed.only (λ is. cc) ∙ c.in_ok-doc.ensures.reads.failed.only (λ is. cc)) (not_failed (Err c.fault_stop.result) (stop_cause ⊥ ⊥ ⊥ c.args.words.now.document c.in-Err.fault c.fault_stop.result c.fault_stop.ensures));
+  failed = stood _ _ (c.in_ok-sources.ensures.reads.failed.only (λ is. cc) ∙ c.in_ok-doc.ensures.reads.failed.only (λ is. cc))
+      (not_failed (Err c.fault_stop.result) (stop_cause ⊥ ⊥ ⊥ c.args.words.now.document c.in-Err.fault c.fault_stop.result c.fault_stop.ensures));
   absences_rise = omega (arith, c.in_ok-doc.ensures.reads.absences_rise, c.in_ok-sources.ensures.reads.absences_rise);
   taken_rise = omega (arith, c.in_ok-doc.ensures.reads.taken_rise, c.in_ok-sources.ensures.reads.taken_rise);
 }

@@ -1,6 +1,5 @@
 use Rattle.report_check.proofs.OneOutcome.{one_outcome}
 use Rattle.report_check.proofs.laws.outcome_is_unique.Goals as goal
 
--- src/laws.rt:10:1
 pub returns : goal.returns
 returns c = one_outcome

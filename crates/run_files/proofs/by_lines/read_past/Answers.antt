@@ -18,15 +18,18 @@ pieces-init g c = record {
 
 pub returns-in-Err-read_at-clause-told : goal.returns-in-Err-read_at-clause-told
 returns-in-Err-read_at-clause-told g c =
-    told_fault c.args.name.now (g.S.Store.held c.args.store.now) (g.S.Store.held c.pieces.store) c.pieces.place c.args.limit c.read_at.new.buf c.in-Err-read_at.fault c.pieces.invariant.same c.in-Err-read_at.ensures.told
+    told_fault c.args.name.now (g.S.Store.held c.args.store.now) (g.S.Store.held c.pieces.store) c.pieces.place c.args.limit c.read_at.new.buf
+    c.in-Err-read_at.fault c.pieces.invariant.same c.in-Err-read_at.ensures.told
 
 pub returns-then-n-eq0-clause-told : goal.returns-then-n-eq0-clause-told
 returns-then-n-eq0-clause-told g c =
-    told_end c.args.name.now (g.S.Store.held c.args.store.now) (g.S.Store.held c.pieces.store) c.pieces.place c.args.limit c.in-Ok-read_at.n c.read_at.new.buf c.pieces.invariant.same (omega arith) c.pieces.invariant.few c.pieces.invariant.reached c.in-Ok-read_at.ensures.told
+    told_end c.args.name.now (g.S.Store.held c.args.store.now) (g.S.Store.held c.pieces.store) c.pieces.place c.args.limit c.in-Ok-read_at.n c.read_at.new.buf
+    c.pieces.invariant.same (omega arith) c.pieces.invariant.few c.pieces.invariant.reached c.in-Ok-read_at.ensures.told
 
 pub returns-then-n-limit-clause-told : goal.returns-then-n-limit-clause-told
 returns-then-n-limit-clause-told g c =
-    told_too_many c.args.name.now (g.S.Store.held c.args.store.now) (g.S.Store.held c.pieces.store) c.pieces.place c.args.limit c.in-Ok-read_at.n c.read_at.new.buf c.pieces.invariant.same (omega arith) c.pieces.invariant.few c.in-Ok-read_at.ensures.told
+    told_too_many c.args.name.now (g.S.Store.held c.args.store.now) (g.S.Store.held c.pieces.store) c.pieces.place c.args.limit c.in-Ok-read_at.n
+    c.read_at.new.buf c.pieces.invariant.same (omega arith) c.pieces.invariant.few c.in-Ok-read_at.ensures.told
 
 pub returns-in-Err-read_at-clause-reads : goal.returns-in-Err-read_at-clause-reads
 returns-in-Err-read_at-clause-reads g c = record {
@@ -63,7 +66,8 @@ pieces-preserved g c =
       room = c.pieces.invariant.room;
       taken = omega (arith, c.in-Ok-read_at.ensures.count.0);
       no_more = omega (arith, c.in-Ok-read_at.ensures.count.1);
-      reached = told_further c.args.name.now (g.S.Store.held c.args.store.now) (g.S.Store.held c.pieces.store) c.pieces.place c.in-Ok-read_at.n c.read_at.new.buf c.pieces.invariant.same c.pieces.invariant.reached c.in-Ok-read_at.ensures.told;
+      reached = told_further c.args.name.now (g.S.Store.held c.args.store.now)
+          (g.S.Store.held c.pieces.store) c.pieces.place c.in-Ok-read_at.n c.read_at.new.buf c.pieces.invariant.same c.pieces.invariant.reached c.in-Ok-read_at.ensures.told;
       faults = c.in-Ok-read_at.ensures.cause.only (λ is. cc) ∙ c.pieces.invariant.faults;
       absences = c.in-Ok-read_at.ensures.absence.only (λ is. cc) ∙ c.pieces.invariant.absences;
     }

@@ -29,7 +29,8 @@ lines-preserved g c =
       told = line_taken c.args.name.now (λ (text : List ℕ) (ls : List (List ℕ)). LeadsOn g.J.LineJudge.leads_to g.J.LineJudge.refuses c.args.judge (lines text) ls c.lines.judge)
           (g.S.Store.held c.args.store.now) (g.S.Store.held c.lines.store) c.lines.invariant.same c.lines.pieces c.next_line.new.pieces c.lines.invariant.told c.line.result.now c.line.ensures
           (rw c.in-Ok-true.field-0-test at c.in-Ok-true.ensures.told)
-          (λ (files : Files). LeadsOn g.J.LineJudge.leads_to g.J.LineJudge.refuses c.args.judge (lines (bytes_at files c.args.name.now)) (left_lines files c.args.name.now c.next_line.new.pieces) c.in-Ok-Continue.next)
+          (λ (files : Files). LeadsOn g.J.LineJudge.leads_to g.J.LineJudge.refuses c.args.judge (lines (bytes_at files c.args.name.now))
+          (left_lines files c.args.name.now c.next_line.new.pieces) c.in-Ok-Continue.next)
           (λ files come. leads_on g.J.LineJudge.leads_to g.J.LineJudge.refuses c.args.judge c.lines.judge c.in-Ok-Continue.next (lines (bytes_at files c.args.name.now))
           (c.line.result.now ∷ left_lines files c.args.name.now c.next_line.new.pieces) (left_lines files c.args.name.now c.next_line.new.pieces) come
           (rw c.in-Ok-Continue.field-0-is at (c.in-Ok-Continue.ensures.judged (left_lines files c.args.name.now c.next_line.new.pieces))));
@@ -57,6 +58,8 @@ returns-in-Err-line-clause-told g c =
     (g.S.Store.held c.args.store.now) (g.S.Store.held c.lines.store) c.lines.invariant.same c.lines.pieces c.next_line.new.pieces c.lines.invariant.told c.line.result.now c.line.ensures
     (rw c.in-Ok-true.field-0-test at c.in-Ok-true.ensures.told)
     (λ (files : Files). JudgesText (g.J.LineJudge.leads_to c.args.judge) (g.J.LineJudge.refuses c.args.judge) c.args.limit files c.args.name.now (Err c.in-Err-line.stop))
-    (λ files come. stopped g.J.LineJudge.leads_to g.J.LineJudge.refuses c.args.limit c.args.name.now c.args.judge c.lines.judge (c.line.result.now ∷ left_lines files c.args.name.now c.next_line.new.pieces) files come
-    (Judges g.J.LineJudge.leads_to g.J.LineJudge.refuses c.lines.judge (c.line.result.now ∷ left_lines files c.args.name.now c.next_line.new.pieces) (left_lines files c.args.name.now c.next_line.new.pieces))
+    (λ files come. stopped g.J.LineJudge.leads_to g.J.LineJudge.refuses c.args.limit c.args.name.now c.args.judge c.lines.judge
+    (c.line.result.now ∷ left_lines files c.args.name.now c.next_line.new.pieces) files come
+    (Judges g.J.LineJudge.leads_to g.J.LineJudge.refuses c.lines.judge (c.line.result.now ∷ left_lines files c.args.name.now c.next_line.new.pieces)
+    (left_lines files c.args.name.now c.next_line.new.pieces))
     c.in-Err-line.stop (c.in-Err-line.ensures.judged (left_lines files c.args.name.now c.next_line.new.pieces)))

@@ -13,8 +13,12 @@ returns-in-Err-Refused-clause-reads g c =
     let r = c.in_ok-bytes.ensures.reads in
     record {
       same = r.same;
-      cause = document_cause _ _ _ c.as_slice.result.now c.args.name.now c.make.result c.in-Err-Refused.refusal c.named-in-Err-Refused.result (subst P c.in-Err-Refused.field-0-is c.in-Err-Refused.ensures.reads) c.named-in-Err-Refused.ensures;
-      failed = stood _ _ (r.failed.only (λ is. cc)) (not_failed (Err c.named-in-Err-Refused.result) (document_cause ⊥ ⊥ ⊥ c.as_slice.result.now c.args.name.now c.make.result c.in-Err-Refused.refusal c.named-in-Err-Refused.result (subst P c.in-Err-Refused.field-0-is c.in-Err-Refused.ensures.reads) c.named-in-Err-Refused.ensures));
+      cause = document_cause _ _ _ c.as_slice.result.now c.args.name.now c.make.result c.in-Err-Refused.refusal c.named-in-Err-Refused.result
+          (subst P c.in-Err-Refused.field-0-is c.in-Err-Refused.ensures.reads) c.named-in-Err-Refused.ensures;
+      failed = stood _ _ (r.failed.only (λ is. cc))
+          (not_failed (Err c.named-in-Err-Refused.result)
+          (document_cause ⊥ ⊥ ⊥ c.as_slice.result.now c.args.name.now c.make.result c.in-Err-Refused.refusal c.named-in-Err-Refused.result
+          (subst P c.in-Err-Refused.field-0-is c.in-Err-Refused.ensures.reads) c.named-in-Err-Refused.ensures));
       absences_rise = r.absences_rise;
       taken_rise = r.taken_rise;
     }

@@ -23,5 +23,6 @@ pub returns-in-Err-Refused-clause-told : goal.returns-in-Err-Refused-clause-told
 returns-in-Err-Refused-clause-told g c =
     let P : ℕ → Type 0 = λ most. IsFirstRefusalWithin c.args.down.now most c.args.doc c.in_ok-files.files c.in-Err-Refused.refusal in
     let refused : IsFirstRefusalWithin c.args.down.now c.entries.result c.args.doc c.in_ok-files.files c.in-Err-Refused.refusal = search rules in
-    network_refused (λ (files : Files) (input : Input). HoldsInput c.args.limits c.args.down.now c.args.name.now files input.doc input.net) c.args.limits c.args.down.now (g.S.Store.held c.args.store.now) c.args.name.now c.args.doc c.slice.result.now _ c.in-Err-Refused.refusal c.named.result
+    network_refused (λ (files : Files) (input : Input). HoldsInput c.args.limits c.args.down.now c.args.name.now files input.doc input.net) c.args.limits c.args.down.now
+    (g.S.Store.held c.args.store.now) c.args.name.now c.args.doc c.slice.result.now _ c.in-Err-Refused.refusal c.named.result
     c.in_ok-files.ensures.told c.slice.ensures.items (subst P c.entries.ensures.value refused) c.named.ensures

@@ -10,7 +10,8 @@ use Rattle.sat_core.proofs.Reasons.{any-reason}
 use Rattle.sat_core.proofs.forgetting.implied.Goals as goal
 
 pub returns-then-is_for-clause-yes : goal.returns-then-is_for-clause-yes
-returns-then-is_for-clause-yes c = λ _. any-reason c.args.trail.now.entries c.var.result c.args.held (ap (option_and_then (λ (e : Assigned). e.reason)) (sym c.entry.ensures) ∙ c.is_for.ensures.yes c.if-is_for.true)
+returns-then-is_for-clause-yes c = λ _. any-reason c.args.trail.now.entries c.var.result c.args.held
+    (ap (option_and_then (λ (e : Assigned). e.reason)) (sym c.entry.ensures) ∙ c.is_for.ensures.yes c.if-is_for.true)
 
 pub loop-lit-preserved : goal.loop-lit-preserved
 loop-lit-preserved c = λ k d l.
@@ -21,7 +22,9 @@ loop-lit-preserved c = λ k d l.
       | inr last ↦
           let same : k ≡ at = omega arith in
           let lit_is : get_or lits k d ≡ get_or lits at (record { code = 0 }) = ap (λ (n : ℕ). get_or lits n d) same ∙ get_or_default lits at d (record { code = 0 }) c.loop-lit-test.true in
-          λ e. c.is_for.ensures.no c.if-is_for.false (ap (option_and_then (λ (x : Assigned). x.reason)) (c.entry.ensures ∙ ap (λ (v : ℕ). entry_of c.args.trail.now.entries v) (c.var.ensures ∙ ap (λ (l : Lit). variable l) (sym lit_is))) ∙ e)
+          λ e. c.is_for.ensures.no c.if-is_for.false
+          (ap (option_and_then (λ (x : Assigned). x.reason)) (c.entry.ensures
+          ∙ ap (λ (v : ℕ). entry_of c.args.trail.now.entries v) (c.var.ensures ∙ ap (λ (l : Lit). variable l) (sym lit_is))) ∙ e)
     ]
 
 pub returns-clause-no : goal.returns-clause-no

@@ -1,7 +1,8 @@
 use Rattle.std.proofs.Common.{ℕ, ap, arith, rules, subst}
 use Rattle.clean_logs.specs.CleanLogs.{additions}
 use Rattle.sat_search.specs.Orders.{IsFresh}
-use Rattle.sat_search.proofs.Following.{follows_start, follows_taught, taught_log, taught_few, taught_more, taught_empty, follows_dropped, dropped_additions, log_same, log_short, log_additions, taught_different}
+use Rattle.sat_search.proofs.Following.{follows_start, follows_taught, taught_log, taught_few, taught_more, taught_empty}
+use Rattle.sat_search.proofs.Following.{follows_dropped, dropped_additions, log_same, log_short, log_additions, taught_different}
 use Rattle.sat_search.proofs.Outcomes.{ends_err}
 use Rattle.sat_search.proofs.Unset.{fresh_waits, waits_dropped}
 use Rattle.sat_search.proofs.searching.run.Goals as goal
@@ -37,15 +38,19 @@ returns-then-branch g c =
     let follows = c.loop-conflict.invariant.follows in
     let kept = c.dive.ensures.kept in
     let taught = c.in_ok-learn.ensures.teaches in
-    let more = taught_more c.args.core.now c.loop-conflict.core c.dive.new.core c.learn.new.core c.args.log.now.steps c.loop-conflict.log.steps c.learn.new.log.steps c.in_ok-learn.field-0 follows kept taught in
+    let more = taught_more c.args.core.now c.loop-conflict.core c.dive.new.core c.learn.new.core c.args.log.now.steps c.loop-conflict.log.steps c.learn.new.log.steps
+    c.in_ok-learn.field-0 follows kept taught in
     record {
-      log = taught_log c.args.core.now c.loop-conflict.core c.dive.new.core c.learn.new.core c.args.log.now.steps c.loop-conflict.log.steps c.learn.new.log.steps c.in_ok-learn.field-0 follows kept taught;
+      log = taught_log c.args.core.now c.loop-conflict.core c.dive.new.core c.learn.new.core c.args.log.now.steps c.loop-conflict.log.steps c.learn.new.log.steps c.in_ok-learn.field-0
+          follows kept taught;
       most = omega (arith, more, c.loop-conflict.invariant.added, c.loop-conflict.invariant.most, c.if-added-limit.false);
-      ends = taught_empty c.args.core.now c.loop-conflict.core c.dive.new.core c.learn.new.core c.args.log.now.steps c.loop-conflict.log.steps c.learn.new.log.steps c.in_ok-learn.field-0 follows kept taught c.if-branch.true;
+      ends = taught_empty c.args.core.now c.loop-conflict.core c.dive.new.core c.learn.new.core c.args.log.now.steps c.loop-conflict.log.steps c.learn.new.log.steps
+          c.in_ok-learn.field-0 follows kept taught c.if-branch.true;
     }
 
 pub drop_lemmas-requires-clause-different : goal.drop_lemmas-requires-clause-different
-drop_lemmas-requires-clause-different g c = taught_different c.dive.new.core c.learn.new.core c.loop-conflict.log.steps c.learn.new.log.steps c.in_ok-learn.field-0 c.dive.ensures.sound.different c.in_ok-learn.ensures.teaches
+drop_lemmas-requires-clause-different g c = taught_different c.dive.new.core c.learn.new.core c.loop-conflict.log.steps c.learn.new.log.steps c.in_ok-learn.field-0
+    c.dive.ensures.sound.different c.in_ok-learn.ensures.teaches
 
 pub drop_lemmas-requires-clause-short : goal.drop_lemmas-requires-clause-short
 drop_lemmas-requires-clause-short g c =
@@ -82,13 +87,15 @@ loop-conflict-preserved g c =
     let taught = c.in_ok-learn.ensures.teaches in
     let more = taught_more s c.loop-conflict.core c.dive.new.core c.learn.new.core c.args.log.now.steps c.loop-conflict.log.steps c.learn.new.log.steps c.in_ok-learn.field-0 follows kept taught in
     let few = taught_few s c.loop-conflict.core c.dive.new.core c.learn.new.core c.args.log.now.steps c.loop-conflict.log.steps c.learn.new.log.steps c.in_ok-learn.field-0 follows kept taught in
-    let next = follows_taught s c.loop-conflict.core c.dive.new.core c.learn.new.core c.args.log.now.steps c.loop-conflict.log.steps c.learn.new.log.steps c.in_ok-learn.field-0 follows kept taught c.if-branch.false in
+    let next = follows_taught s c.loop-conflict.core c.dive.new.core c.learn.new.core c.args.log.now.steps c.loop-conflict.log.steps c.learn.new.log.steps c.in_ok-learn.field-0
+    follows kept taught c.if-branch.false in
     let drops = c.in_ok-drop_lemmas.ensures.drops in
     let same = dropped_additions s c.learn.new.core c.drop_lemmas.new.core c.args.log.now.steps c.learn.new.log.steps c.drop_lemmas.new.log.steps next few drops in
     record {
       follows = follows_dropped s c.learn.new.core c.drop_lemmas.new.core c.args.log.now.steps c.learn.new.log.steps c.drop_lemmas.new.log.steps next few drops;
       ready = c.in_ok-drop_lemmas.ensures.ready;
-      waiting = waits_dropped c.learn.new.core c.drop_lemmas.new.core c.learn.new.log.steps c.drop_lemmas.new.log.steps c.learn.new.self.order c.drop_lemmas.new.self.order c.in_ok-learn.ensures.waiting drops c.drop_lemmas.ensures.order;
+      waiting = waits_dropped c.learn.new.core c.drop_lemmas.new.core c.learn.new.log.steps c.drop_lemmas.new.log.steps c.learn.new.self.order c.drop_lemmas.new.self.order
+          c.in_ok-learn.ensures.waiting drops c.drop_lemmas.ensures.order;
       added = omega (arith, more, same, c.loop-conflict.invariant.added);
       most = omega (arith, c.loop-conflict.invariant.most, c.if-added-limit.false);
     }

@@ -5,7 +5,8 @@ use Rattle.sat_core.specs.States.{State}
 use Rattle.clean_logs.specs.CleanLogs.{IsClean, added_by, additions}
 use Rattle.sat_search.specs.Live.{clause_in}
 use Rattle.sat_search.specs.Searches.{appended, live_after, KeepsOthers, Knows}
-use Rattle.sat_search.proofs.Outcomes.{log_ids, log_old, log_accepted, log_hints, log_lines, refuted_exactly, refuting_then, model_then, spent_then, is_model_then, follows_knows, follows_clean, follows_others, searched_back}
+use Rattle.sat_search.proofs.Outcomes.{log_ids, log_old, log_accepted, log_hints, log_lines, refuted_exactly, refuting_then}
+use Rattle.sat_search.proofs.Outcomes.{model_then, spent_then, is_model_then, follows_knows, follows_clean, follows_others, searched_back}
 use Rattle.sat_search.proofs.searching.search_first.Goals as goal
 
 pub returns-clause-ids : goal.returns-clause-ids
@@ -163,7 +164,8 @@ returns-clause-clean g c =
     let new = c.run-found.new.log.steps in
     let now = c.back_to.new.self in
     let ran = searched_back s old c.args.limit c.run-found.new.core now new c.run-found.result c.run-found.ensures c.back_to.ensures in
-    λ f least tops knows clean. model_then (λ n steps. IsClean f least tops steps) s old c.args.limit now new c.run-found.result (λ follows. follows_clean s old now new follows f least tops knows clean) ran
+    λ f least tops knows clean. model_then (λ n steps. IsClean f least tops steps) s old c.args.limit now new c.run-found.result
+    (λ follows. follows_clean s old now new follows f least tops knows clean) ran
 
 pub returns-clause-spent : goal.returns-clause-spent
 returns-clause-spent g c =

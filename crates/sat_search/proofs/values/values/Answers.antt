@@ -9,5 +9,6 @@ model-of (Err e) values P is p = is
 
 pub returns : goal.returns
 returns c = model-of c.of.result c.loop-var.values.items (IsModelOf c.args.core.now) c.of.ensures.ok
-    (values_model c.args.core.now c.loop-var.values.items c.resting_trails_satisfy.ensures c.requires.sound c.requires.rest c.requires.all_set (omega (arith, c.loop-var.invariant.size, c.vars-vars.ensures.value))
+    (values_model c.args.core.now c.loop-var.values.items c.resting_trails_satisfy.ensures c.requires.sound c.requires.rest c.requires.all_set
+    (omega (arith, c.loop-var.invariant.size, c.vars-vars.ensures.value))
     (λ v least most. c.loop-var.invariant.values v least (omega (arith, c.vars-vars.ensures.value, most))))

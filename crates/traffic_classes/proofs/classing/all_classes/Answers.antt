@@ -18,7 +18,9 @@ returns-in_err-add-clause-many c =
     made c.args.net.now c.args.policies.now c.in_ok-marks.marks c.in_ok-marks.ensures c.policy-item.result
     c.in_ok-leaves.leaves.sources c.in_ok-leaves.leaves.destinations c.in_ok-leaves.leaves.services
     c.in_ok-leaves.ensures.sources c.in_ok-leaves.ensures.destinations c.in_ok-leaves.ensures.services in
-    let P : ℕ → Type 0 = λ n. told (length c.in_ok-leaves.leaves.sources * length c.in_ok-leaves.leaves.destinations * length c.in_ok-leaves.leaves.services + count_by (lies_off c.policy-item.result) c.loop-policy.found.classes.items) ≡ n in
+    let P : ℕ → Type 0 = λ n. told
+    (length c.in_ok-leaves.leaves.sources * length c.in_ok-leaves.leaves.destinations * length c.in_ok-leaves.leaves.services + count_by
+    (lies_off c.policy-item.result) c.loop-policy.found.classes.items) ≡ n in
     let have : (n : ℕ) → P n → FirstHaveMore c.args.net.now c.args.policies.now n =
     λ n said. next_have c.args.net.now c.args.policies.now c.slice-policy-items.result.now c.loop-policy.policy-index c.policy-item.result
     c.slice-policy-items.ensures.items c.loop-policy-test.true c.policy-item.is c.loop-policy.found.classes.items
@@ -39,7 +41,8 @@ loop-policy-preserved c =
     next_count c.args.net.now c.args.policies.now c.slice-policy-items.result.now c.loop-policy.policy-index c.policy-item.result
     c.slice-policy-items.ensures.items c.loop-policy-test.true c.policy-item.is c.loop-policy.found.classes.items
     (all_triples c.in_ok-leaves.leaves.sources c.in_ok-leaves.leaves.destinations c.in_ok-leaves.leaves.services) c.loop-policy.invariant.are are in
-    let same : length c.add.new.self.classes.items ≡ length (fold with_class c.loop-policy.found.classes.items (all_triples c.in_ok-leaves.leaves.sources c.in_ok-leaves.leaves.destinations c.in_ok-leaves.leaves.services)) =
+    let same : length c.add.new.self.classes.items ≡ length
+    (fold with_class c.loop-policy.found.classes.items (all_triples c.in_ok-leaves.leaves.sources c.in_ok-leaves.leaves.destinations c.in_ok-leaves.leaves.services)) =
     ap (λ (l : List Class). length l) c.in_ok-add.ensures.added in
     record {
       indexed = c.in_ok-add.ensures.indexed;

@@ -52,7 +52,8 @@ loop-place-preserved c =
       within = omega arith;
       inverse = inverse-moved vars c.loop-place.places v i j m;
       same = λ w. (λ e. (same w).0 ((inv.same w).0 e), λ e. (inv.same w).1 ((same w).1 e));
-      order = λ start. order-up activity (set vars i v) (moved_vars vars v i j) i j (omega arith) exchange (omega arith, omega arith) (omega arith) (omega (arith, here, there, more)) (inv.order start);
+      order = λ start. order-up activity (set vars i v) (moved_vars vars v i j) i j (omega arith) exchange (omega arith, omega arith) (omega arith) (omega (arith, here, there, more))
+          (inv.order start);
     }
 
 pub bounds-places-var : goal.bounds-places-var

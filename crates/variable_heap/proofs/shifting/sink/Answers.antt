@@ -23,13 +23,15 @@ comes_before-requires-clause-one c =
 
 pub comes_before-requires-clause-other : goal.comes_before-requires-clause-other
 comes_before-requires-clause-other c =
-    let way = gives-way _ _ _ _ _ (move c.args.activity.now c.loop-below.vars c.loop-below.places c.args.var c.loop-below.place c.in-Some.below c.loop-below.invariant.within c.loop-below.invariant.inverse c.in-Some.ensures) in
+    let way = gives-way _ _ _ _ _
+    (move c.args.activity.now c.loop-below.vars c.loop-below.places c.args.var c.loop-below.place c.in-Some.below c.loop-below.invariant.within c.loop-below.invariant.inverse c.in-Some.ensures) in
     let below = way.other_below in
     omega (arith, below, c.loop-below.auto.places, c.requires.known)
 
 pub bounds-places-other : goal.bounds-places-other
 bounds-places-other c =
-    (gives-way _ _ _ _ _ (move c.args.activity.now c.loop-below.vars c.loop-below.places c.args.var c.loop-below.place c.in-Some.below c.loop-below.invariant.within c.loop-below.invariant.inverse c.in-Some.ensures)).other_below
+    (gives-way _ _ _ _ _ (move c.args.activity.now c.loop-below.vars c.loop-below.places c.args.var c.loop-below.place c.in-Some.below c.loop-below.invariant.within
+    c.loop-below.invariant.inverse c.in-Some.ensures)).other_below
 
 pub loop-below-preserved : goal.loop-below-preserved
 loop-below-preserved c =

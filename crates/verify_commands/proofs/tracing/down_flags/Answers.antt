@@ -19,7 +19,15 @@ loop-number-init c =
 
 pub index_mut-requires : goal.index_mut-requires
 index_mut-requires c =
-    omega (arith, none_above c.args.links c.args.numbers.now c.requires c.loop-number.number-index 0 c.loop-number-test.true, c.in-Some.ensures.0, c.in-Some.ensures.1, c.loop-number.invariant.whole, c.loop-number.flags.ok)
+    omega (
+      arith,
+      none_above c.args.links c.args.numbers.now c.requires c.loop-number.number-index 0
+          c.loop-number-test.true,
+      c.in-Some.ensures.0,
+      c.in-Some.ensures.1,
+      c.loop-number.invariant.whole,
+      c.loop-number.flags.ok,
+    )
 
 pub loop-number-preserved : goal.loop-number-preserved
 loop-number-preserved c = elim c.match-checked_sub.branch [
@@ -32,16 +40,19 @@ loop-number-preserved c = elim c.match-checked_sub.branch [
         whole = ap length items ∙ length-set c.loop-number.flags.items w.in-Some.place true ∙ c.loop-number.invariant.whole;
         each = λ place within.
             ap (λ (fs : List Bool). get_or fs place false) items ∙
-            flags_more c.args.numbers.now c.loop-number.flags.items c.loop-number.number-index w.in-Some.place place c.loop-number-test.true own inside (omega (arith, within, c.loop-number.invariant.whole))
+            flags_more c.args.numbers.now c.loop-number.flags.items c.loop-number.number-index w.in-Some.place place c.loop-number-test.true own inside
+            (omega (arith, within, c.loop-number.invariant.whole))
             (c.loop-number.invariant.each place within);
       }
   | in_default w ↦
-      let none : get_or c.args.numbers.now c.loop-number.number-index 0 ≡ 0 = elim (cases_lt 0 (get_or c.args.numbers.now c.loop-number.number-index 0)) [ inl more ↦ absurd (w.in_default.ensures more) | inr none ↦ omega arith ] in
+      let none : get_or c.args.numbers.now c.loop-number.number-index 0 ≡ 0 =
+      elim (cases_lt 0 (get_or c.args.numbers.now c.loop-number.number-index 0)) [ inl more ↦ absurd (w.in_default.ensures more) | inr none ↦ omega arith ] in
       record {
         whole = ap (λ (v : Vec Bool Global). length v.items) w.flags-is ∙ c.loop-number.invariant.whole;
         each = λ place within.
             ap (λ (v : Vec Bool Global). get_or v.items place false) w.flags-is ∙
-            flag_kept c.args.numbers.now c.loop-number.number-index place (get_or c.loop-number.flags.items place false) c.loop-number-test.true (λ e. omega (arith, none, e)) (c.loop-number.invariant.each place within);
+            flag_kept c.args.numbers.now c.loop-number.number-index place (get_or c.loop-number.flags.items place false) c.loop-number-test.true (λ e. omega (arith, none, e))
+            (c.loop-number.invariant.each place within);
       }
 ]
 

@@ -2,7 +2,7 @@ use Rattle.std.proofs.Common.{◌≡◌, ℕ, ◌+◌, ◌<◌, ◌==◌, false,
 use Rattle.std.specs.List.{list_any}
 use Rattle.verify_commands.proofs.tracing.down_flags.Given as goal
 
--- each link that is numbered so far is down, and no other
+-- each link whose number came so far is down, and no other
 abbrev pub invariant-loop-number : goal.invariant-loop-number
 invariant-loop-number l = record {
   whole : length l.flags.items ≡ l.links;

@@ -19,6 +19,7 @@ loop-place-preserved c =
 
 pub returns : goal.returns
 returns c = (
-  λ t. once_end (StandOnce c.args.links.now (flat_map (λ path. path.links) c.args.later.now)) c.args.links.now (flat_map (λ path. path.links) c.args.later.now) c.loop-place.place (omega arith) c.loop-place.invariant,
+  λ t. once_end (StandOnce c.args.links.now (flat_map (λ path. path.links) c.args.later.now)) c.args.links.now (flat_map (λ path. path.links) c.args.later.now) c.loop-place.place
+      (omega arith) c.loop-place.invariant,
   λ once. refl,
 )

@@ -19,14 +19,17 @@ bounds-words-place c =
     let t = standing c.self.inside c.args.self.now c.args.place c.self.invariant c.self.view_is c.requires in
     omega (arith, t.within, ap length c.as_mut_slice-words.ensures.value)
 
-kept : (c : goal.After-self-1) → Kept (record { words = with_items c.self.inside.words (set c.as_mut_slice-words.result.now c.args.place (number c.args.id)); room = c.self.inside.room }) (record { end = c.args.self.now.end; room = c.args.self.now.room; live = changed c.args.self.now.live c.args.place (with_id c.args.id) })
+kept : (c : goal.After-self-1) →
+    Kept (record { words = with_items c.self.inside.words (set c.as_mut_slice-words.result.now c.args.place (number c.args.id)); room = c.self.inside.room })
+    (record { end = c.args.self.now.end; room = c.args.self.now.room; live = changed c.args.self.now.live c.args.place (with_id c.args.id) })
 kept c =
     let r = c.self.inside in
     let t = standing r c.args.self.now c.args.place c.self.invariant c.self.view_is c.requires in
     let same = c.as_mut_slice-words.ensures.value in
     let ws : List Lit = set c.as_mut_slice-words.result.now c.args.place (number c.args.id) in
     id-over r (record { words = with_items r.words ws; room = r.room }) c.args.self.now c.args.place c.args.id c.self.invariant c.self.view_is t
-    (with_items_is r.words ws (length-set c.as_mut_slice-words.result.now c.args.place (number c.args.id) ∙ ap length same ∙ sym r.words.ok.0) ∙ ap (λ (xs : List Lit). set xs c.args.place (number c.args.id)) same)
+    (with_items_is r.words ws (length-set c.as_mut_slice-words.result.now c.args.place (number c.args.id) ∙ ap length same ∙ sym r.words.ok.0)
+    ∙ ap (λ (xs : List Lit). set xs c.args.place (number c.args.id)) same)
     refl (omega arith)
 
 pub invariant_of-self : goal.invariant_of-self

@@ -11,7 +11,9 @@ loop-word-preserved g c =
     let taken = rw vars_is at c.in_ok-take_word.ensures in
     record {
       bad = good_word c.args.self.now.vars c.in-Some.word.now (words c.in-Some.after.now) (words c.loop-word.rest.now) c.in-Some.ensures.word taken.number ∙ c.loop-word.invariant.bad;
-      pieces = λ more. taken.pieces (line_numbers c.args.self.now.vars (words c.in-Some.after.now) ++ more) ∙ ap (pieces_after (g.S.ClauseSink.taken c.loop-word.self.sink) c.loop-word.self.unclosed.items) (numbers_word c.args.self.now.vars c.in-Some.word.now (words c.in-Some.after.now) (words c.loop-word.rest.now) more c.in-Some.ensures.word) ∙ c.loop-word.invariant.pieces more;
+      pieces = λ more. taken.pieces (line_numbers c.args.self.now.vars (words c.in-Some.after.now) ++ more)
+          ∙ ap (pieces_after (g.S.ClauseSink.taken c.loop-word.self.sink) c.loop-word.self.unclosed.items)
+          (numbers_word c.args.self.now.vars c.in-Some.word.now (words c.in-Some.after.now) (words c.loop-word.rest.now) more c.in-Some.ensures.word) ∙ c.loop-word.invariant.pieces more;
       clauses = omega (arith, c.loop-word.invariant.clauses, c.in_ok-take_word.ensures.clauses, c.in-Some.ensures.shorter);
       vars = c.in_ok-take_word.ensures.vars ∙ vars_is;
     }

@@ -20,7 +20,8 @@ invariant_of-self-in-Ok c =
     let sizes = sum_by_push size ps p in
     let rows = length_push ps p in
     rw (c.in-Ok.ensures.items, all) (record {
-      within = All-push (IsPlace (length (old ++ c.args.clause.now))) ps p (more_places (length old) (length (old ++ c.args.clause.now)) ps (omega arith) tidy.within) (record { start = omega arith; stop = omega arith });
+      within = All-push (IsPlace (length (old ++ c.args.clause.now))) ps p (more_places (length old) (length (old ++ c.args.clause.now)) ps (omega arith) tidy.within)
+          (record { start = omega arith; stop = omega arith });
       rising = rising_push 0 (length old) ps p (omega arith) tidy.within tidy.rising (λ some. omega arith);
       room = omega (arith, tidy.room, sizes);
       dense = omega (arith, tidy.dense, rows);
@@ -33,4 +34,7 @@ returns-in-Ok-clause-ok c =
     let all = c.extend_from_slice.new.self.items in
     let p : Place = record { start = c.len-start.result; stop = c.len.result + 1 } in
     ap (map (clause_at all)) c.in-Ok.ensures.items ∙ map_push (clause_at all) ps p
-    ∙ ap₂ (λ xs x. xs ++ x ∷ []) (same_clauses (clause_at all) (clause_at old) (length old) ps c.self.invariant.within (λ q h. ap (λ ls. clause_at ls q) c.in_ok-extend_from_slice.ensures.items ∙ clause_before old c.args.clause.now q h) ∙ c.self.view_is) (clause_pushed old c.args.clause.now all p.start p.stop c.in_ok-extend_from_slice.ensures.items (omega arith) (omega arith))
+    ∙ ap₂ (λ xs x. xs ++ x ∷ [])
+    (same_clauses (clause_at all) (clause_at old) (length old) ps c.self.invariant.within
+    (λ q h. ap (λ ls. clause_at ls q) c.in_ok-extend_from_slice.ensures.items ∙ clause_before old c.args.clause.now q h)
+    ∙ c.self.view_is) (clause_pushed old c.args.clause.now all p.start p.stop c.in_ok-extend_from_slice.ensures.items (omega arith) (omega arith))

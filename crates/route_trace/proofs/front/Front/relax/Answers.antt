@@ -14,7 +14,8 @@ loop-step-preserved c =
     let inside : (get_or c.args.steps.now c.loop-step.step-index z).tail.0 < length now =
     omega (arith, c.loop-step.invariant.0, c.requires.tails c.loop-step.step-index z within) in (
       ap (λ (xs : List (Option ℕ)). length xs) c.in_ok-offer.ensures.distances
-          ∙ length-set now (get_or c.args.steps.now c.loop-step.step-index z).tail.0 (Some (lesser (distance_map now (get_or c.args.steps.now c.loop-step.step-index z).tail.0) (c.args.from + (get_or c.args.steps.now c.loop-step.step-index z).cost)))
+          ∙ length-set now (get_or c.args.steps.now c.loop-step.step-index z).tail.0
+          (Some (lesser (distance_map now (get_or c.args.steps.now c.loop-step.step-index z).tail.0) (c.args.from + (get_or c.args.steps.now c.loop-step.step-index z).cost)))
           ∙ c.loop-step.invariant.0,
       c.in_ok-offer.ensures.settled ∙ c.loop-step.invariant.1,
       c.in_ok-offer.ensures.queue,

@@ -31,7 +31,8 @@ returns-then-not-index-clause-nearest c =
 
 pub returns-then-not-index-clause-queue : goal.returns-then-not-index-clause-queue
 returns-then-not-index-clause-queue c =
-    settled_here c.args.self.now.distances.items c.entry.self.distances.items c.args.self.now.settled.items c.entry.self.settled.items (heap_items c.entry.self.queue) (heap_items c.pop.new.self) c.in-Some.field-0
+    settled_here c.args.self.now.distances.items c.entry.self.distances.items c.args.self.now.settled.items c.entry.self.settled.items (heap_items
+    c.entry.self.queue) (heap_items c.pop.new.self) c.in-Some.field-0
     c.entry.invariant.0 c.entry.invariant.1 c.entry.invariant.2 c.in-Some.ensures.permutation (c.in-Some.ensures.heap_order c.entry.invariant.2.ordered).0 c.requires.whole
 
 pub entry-preserved : goal.entry-preserved

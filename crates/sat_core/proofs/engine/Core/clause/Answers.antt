@@ -9,4 +9,5 @@ pub returns-clause-range : goal.returns-clause-range
 returns-clause-range c =
     let i = c.self.inside in
     let t = told i.store.clauses c.args.held c.lits.result.now c.lits.ensures in
-    subst (λ (s : State). All (IsOf s.vars) c.lits.result.now) c.self.view_is (alike-all (IsOf i.trail.vars) t.lits c.lits.result.now t.alike (range-at i.trail.vars i.store.clauses c.args.held t.lits c.self.invariant.sound.range t.is))
+    subst (λ (s : State). All (IsOf s.vars) c.lits.result.now) c.self.view_is
+    (alike-all (IsOf i.trail.vars) t.lits c.lits.result.now t.alike (range-at i.trail.vars i.store.clauses c.args.held t.lits c.self.invariant.sound.range t.is))

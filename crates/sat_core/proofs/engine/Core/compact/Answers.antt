@@ -19,4 +19,5 @@ put_anew-requires-clause-moves c =
     (to-move c.self.inside.store c.self.inside.pool c.compact.new.self _ c.compact.new.moved u.placed c.in_ok-compact.ensures.sound c.make-moved.ensures c.in_ok-compact.ensures.ok)
 
 pub invariant_of-self-2 : goal.invariant_of-self-2
-invariant_of-self-2 c = kept-compacted c.self.inside c.put_anew.new.store c.compact.new.self _ _ c.self.invariant c.in_ok-compact.ensures.ok c.in_ok-compact.ensures.sound c.put_anew.ensures.clauses c.put_anew.ensures.placed
+invariant_of-self-2 c = kept-compacted c.self.inside c.put_anew.new.store c.compact.new.self _ _ c.self.invariant c.in_ok-compact.ensures.ok c.in_ok-compact.ensures.sound
+    c.put_anew.ensures.clauses c.put_anew.ensures.placed

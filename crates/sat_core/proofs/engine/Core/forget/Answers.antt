@@ -65,6 +65,7 @@ pub returns : goal.returns
 returns c =
     let i = c.self.inside in
     let h = c.args.held in
-    ap (λ (t : Stored). let s : State = record { vars = c.rename.new.trail.vars; clauses = t.clauses; last_id = i.last_id; trail = c.rename.new.trail.entries; level = c.rename.new.trail.level } in s) c.remove.ensures
+    ap (λ (t : Stored). let s : State =
+    record { vars = c.rename.new.trail.vars; clauses = t.clauses; last_id = i.last_id; trail = c.rename.new.trail.entries; level = c.rename.new.trail.level } in s) c.remove.ensures
     ∙ ap (λ (a : Assignment). let s : State = record { vars = a.vars; clauses = without_at i.store.clauses h.0; last_id = i.last_id; trail = a.entries; level = a.level } in s) c.rename.ensures
     ∙ ap (λ (s : State). without_clause s h) c.self.view_is

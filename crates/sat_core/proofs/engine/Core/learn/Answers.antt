@@ -23,7 +23,8 @@ pub invariant_of-self : goal.invariant_of-self
 invariant_of-self c =
     let i = c.self.inside in
     let e = c.in_err-enter_watched.ensures in
-    subst (λ (t : Stored). IsKeptCore (record i { store = t; pool = c.enter_watched.new.pool })) (sym e.err) (kept-spare i c.enter_watched.new.pool c.enter_watched.new.pool.spare c.self.invariant e.same)
+    subst (λ (t : Stored). IsKeptCore (record i { store = t; pool = c.enter_watched.new.pool })) (sym e.err)
+    (kept-spare i c.enter_watched.new.pool c.enter_watched.new.pool.spare c.self.invariant e.same)
 
 pub invariant_of-self-2 : goal.invariant_of-self-2
 invariant_of-self-2 c =
@@ -39,9 +40,11 @@ invariant_of-self-2 c =
     let e = c.in_ok-enter_watched.ensures in
     let vars : i.pool.vars ≡ i.trail.vars = c.self.invariant.underway.linked.vars_are in
     let place = e.ok.0 in
-    let linked : IsLinked i.trail.vars (i.store.clauses ++ n ∷ []) c.enter_watched.new.pool = subst (λ (v : ℕ). IsLinked v (i.store.clauses ++ n ∷ []) c.enter_watched.new.pool) vars (subst (λ (t : Stored). IsLinked i.pool.vars t.clauses c.enter_watched.new.pool) e.ok.1 e.linked) in
+    let linked : IsLinked i.trail.vars (i.store.clauses ++ n ∷ []) c.enter_watched.new.pool =
+    subst (λ (v : ℕ). IsLinked v (i.store.clauses ++ n ∷ []) c.enter_watched.new.pool) vars (subst (λ (t : Stored). IsLinked i.pool.vars t.clauses c.enter_watched.new.pool) e.ok.1 e.linked) in
     let placed : IsPlaced (with_row i.store n place) c.enter_watched.new.pool = subst (λ (t : Stored). IsPlaced t c.enter_watched.new.pool) e.ok.1 e.placed in
     let progress : Progress = record { seen = c.len.result + 1; done = i.progress.done; floor = i.progress.floor } in
     subst (λ (t : Stored). IsKeptCore (record i { store = t; pool = c.enter_watched.new.pool; trail = c.assign.new.self; last_id = c.max-self-inside.result; progress = progress })) (sym e.ok.1)
-    (subst (λ (a : Assignment). IsKeptCore (record i { store = with_row i.store n place; pool = c.enter_watched.new.pool; trail = a; last_id = c.max-self-inside.result; progress = progress })) (sym c.assign.ensures)
+    (subst (λ (a : Assignment). IsKeptCore
+    (record i { store = with_row i.store n place; pool = c.enter_watched.new.pool; trail = a; last_id = c.max-self-inside.result; progress = progress })) (sym c.assign.ensures)
     (kept-learnt i n place c.enter_watched.new.pool c.max-self-inside.result held c.self.invariant asserts range few fresh c.max-self-inside.ensures c.len.ensures.number linked placed e.gains))

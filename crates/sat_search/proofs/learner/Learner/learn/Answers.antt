@@ -9,10 +9,12 @@ pub enter-requires-clause-known : goal.enter-requires-clause-known
 enter-requires-clause-known c = subst (λ (s : State). All (λ d. d.id ≤ s.last_id) s.clauses) (sym c.take_back.ensures.taken) c.of.ensures.sound.ids
 
 pub enter-requires-clause-waiting : goal.enter-requires-clause-waiting
-enter-requires-clause-waiting c = c.take_back.ensures.waiting (waits_same c.args.core.now.vars c.args.core.now.trail c.args.self.now.order c.remember.new.self c.requires.waiting c.remember.ensures.same)
+enter-requires-clause-waiting c = c.take_back.ensures.waiting
+    (waits_same c.args.core.now.vars c.args.core.now.trail c.args.self.now.order c.remember.new.self c.requires.waiting c.remember.ensures.same)
 
 pub returns-clause-teaches : goal.returns-clause-teaches
-returns-clause-teaches c = taught_above c.args.core.now c.take_back.new.core c.enter.new.core c.args.log.now.steps c.enter.new.log.steps _ c.enter.result c.take_back.ensures.taken c.enter.ensures.teaches
+returns-clause-teaches c = taught_above c.args.core.now c.take_back.new.core c.enter.new.core c.args.log.now.steps c.enter.new.log.steps _ c.enter.result c.take_back.ensures.taken
+    c.enter.ensures.teaches
 
 pub returns-clause-ready : goal.returns-clause-ready
 returns-clause-ready c =

@@ -18,7 +18,9 @@ returns-then-lately-clause-exact c = λ rise.
     let levels : c.unwrap_or-levels.result ≡ get_or c.args.self.now.levels.items place 0 = search rules in
     let lately : get_or c.args.used.now place true ≡ true = search rules in
     let value : c.unwrap_or-levels.result ≡ cost_at c.args.self.now.levels.items c.args.used.now place = omega (arith, levels, ap (λ (b : Bool). if b then 0 else 2 ^ 32) lately) in
-    ap (λ (n : ℕ). Some n) value ∙ sym (costs_this c.args.self.now c.args.used.now c.args.core.now c.args.held c.id-id.result t.lits c.id-id.ensures t.is place rise (omega (arith, c.if-clause-le2.false, t.alike.size)) (c.is_reason.ensures.no c.if-is_reason.false) c.in-Some.ensures.place.0 c.in-Some.ensures.place.1)
+    ap (λ (n : ℕ). Some n) value
+    ∙ sym (costs_this c.args.self.now c.args.used.now c.args.core.now c.args.held c.id-id.result t.lits c.id-id.ensures t.is place rise
+    (omega (arith, c.if-clause-le2.false, t.alike.size)) (c.is_reason.ensures.no c.if-is_reason.false) c.in-Some.ensures.place.0 c.in-Some.ensures.place.1)
 
 pub returns-else-lately-clause-exact : goal.returns-else-lately-clause-exact
 returns-else-lately-clause-exact c = λ rise.
@@ -27,4 +29,6 @@ returns-else-lately-clause-exact c = λ rise.
     let levels : c.unwrap_or-levels.result ≡ get_or c.args.self.now.levels.items place 0 = search rules in
     let lately : get_or c.args.used.now place true ≡ false = search rules in
     let value : c.unwrap_or-levels.result + 2 ^ 32 ≡ cost_at c.args.self.now.levels.items c.args.used.now place = omega (arith, levels, ap (λ (b : Bool). if b then 0 else 2 ^ 32) lately) in
-    ap (λ (n : ℕ). Some n) value ∙ sym (costs_this c.args.self.now c.args.used.now c.args.core.now c.args.held c.id-id.result t.lits c.id-id.ensures t.is place rise (omega (arith, c.if-clause-le2.false, t.alike.size)) (c.is_reason.ensures.no c.if-is_reason.false) c.in-Some.ensures.place.0 c.in-Some.ensures.place.1)
+    ap (λ (n : ℕ). Some n) value
+    ∙ sym (costs_this c.args.self.now c.args.used.now c.args.core.now c.args.held c.id-id.result t.lits c.id-id.ensures t.is place rise
+    (omega (arith, c.if-clause-le2.false, t.alike.size)) (c.is_reason.ensures.no c.if-is_reason.false) c.in-Some.ensures.place.0 c.in-Some.ensures.place.1)

@@ -17,7 +17,8 @@ dropped-requires c = omega (arith, few_drops c.args.log.now.steps c.args.self.no
 pub returns-clause-lemmas : goal.returns-clause-lemmas
 returns-clause-lemmas c =
     subst (λ (xs : List Step). AreLemmas xs c.dropped.new.self) (sym c.in_ok-push.ensures.ok)
-    (lemmas_drop c.args.log.now.steps c.args.self.now c.dropped.new.self _ c.requires.lemmas (ap (λ (l : Lemmas). l.ids.items) c.dropped.ensures) (ap (λ (l : Lemmas). l.drops) c.dropped.ensures) (ap (λ (l : Lemmas). l.wait) c.dropped.ensures))
+    (lemmas_drop c.args.log.now.steps c.args.self.now c.dropped.new.self _ c.requires.lemmas (ap (λ (l : Lemmas). l.ids.items) c.dropped.ensures)
+    (ap (λ (l : Lemmas). l.drops) c.dropped.ensures) (ap (λ (l : Lemmas). l.wait) c.dropped.ensures))
 
 pub returns-clause-drops : goal.returns-clause-drops
 returns-clause-drops c =
@@ -29,8 +30,10 @@ returns-clause-drops c =
     let may_go = first_go old c.args.self.now c.old.result ids c.requires.lemmas c.old.ensures first in
     let most : length ids ≤ (count_by (λ id. is_long (clause_in c.args.core.now.clauses id)) (take c.old.result items) + 1) / 2 =
     subst (λ (n : ℕ). length ids ≤ (count_by (λ id. is_long (clause_in c.args.core.now.clauses id)) (take n items) + 1) / 2) size c.in_ok-ids.ensures.most in
-    let half = half_named c.args.core.now c.forget_half.new.core old c.args.self.now c.old.result ids c.requires.lemmas c.old.ensures c.in_ok-ids.ensures.forgets (some_item ids (λ none. false≢true (sym c.if-is_empty.false ∙ c.is_empty.ensures.1 none))) most in
-    drops_some c.args.core.now c.forget_half.new.core c.compact.new.self old c.push.new.self ids c.in_ok-ids.ensures.forgets c.compact.ensures may_go c.in_ok-push.ensures.ok (sym c.requires.lemmas.wait ∙ c.requires.due) half
+    let half = half_named c.args.core.now c.forget_half.new.core old c.args.self.now c.old.result ids c.requires.lemmas c.old.ensures c.in_ok-ids.ensures.forgets
+    (some_item ids (λ none. false≢true (sym c.if-is_empty.false ∙ c.is_empty.ensures.1 none))) most in
+    drops_some c.args.core.now c.forget_half.new.core c.compact.new.self old c.push.new.self ids c.in_ok-ids.ensures.forgets c.compact.ensures may_go c.in_ok-push.ensures.ok
+    (sym c.requires.lemmas.wait ∙ c.requires.due) half
 
 pub returns-clause-half : goal.returns-clause-half
 returns-clause-half c = λ rise.

@@ -12,7 +12,8 @@ pub returns-in_ok-push-in-Some-clause-forgets : goal.returns-in_ok-push-in-Some-
 returns-in_ok-push-in-Some-clause-forgets c =
     let s = c.args.core.now in
     subst (λ (now : State). ForgetsMore s c.args.ids.now now c.push.new.self) (sym c.forget.ensures)
-    (subst (λ (ids : List ℕ). ForgetsMore s c.args.ids.now (without_clause s c.args.held) ids) (sym c.in_ok-push-in-Some.ensures.ok) (more_one s c.args.ids.now c.args.held c.id.result c.requires.different c.id.ensures (c.in-Some.ensures.long refl)))
+    (subst (λ (ids : List ℕ). ForgetsMore s c.args.ids.now (without_clause s c.args.held) ids) (sym c.in_ok-push-in-Some.ensures.ok)
+    (more_one s c.args.ids.now c.args.held c.id.result c.requires.different c.id.ensures (c.in-Some.ensures.long refl)))
 
 pub returns-in_ok-push-in-Some-clause-different : goal.returns-in_ok-push-in-Some-clause-different
 returns-in_ok-push-in-Some-clause-different c =
@@ -20,7 +21,8 @@ returns-in_ok-push-in-Some-clause-different c =
 
 pub returns-in_ok-push-in-Some-clause-old : goal.returns-in_ok-push-in-Some-clause-old
 returns-in_ok-push-in-Some-clause-old c =
-    old_more (Contains (take (length c.args.used.now) c.args.self.now.ids.items)) (id_at c.args.core.now.clauses c.args.held) c.args.ids.now c.push.new.self c.id.result (c.in-Some.ensures.old refl) c.id.ensures c.in_ok-push-in-Some.ensures.ok
+    old_more (Contains (take (length c.args.used.now) c.args.self.now.ids.items)) (id_at c.args.core.now.clauses c.args.held) c.args.ids.now c.push.new.self
+    c.id.result (c.in-Some.ensures.old refl) c.id.ensures c.in_ok-push-in-Some.ensures.ok
 
 pub returns-in_ok-push-in-Some-clause-before : goal.returns-in_ok-push-in-Some-clause-before
 returns-in_ok-push-in-Some-clause-before c = λ n low.

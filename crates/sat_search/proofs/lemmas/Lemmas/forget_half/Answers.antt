@@ -71,7 +71,8 @@ returns-clause-half c = λ rise.
     let size : sum_by (counts 0) items ≡ length items = all_count 0 items (λ i low. omega arith) in
     let total = c.in_ok-costs.ensures.counts rise 0 in
     let each = all_cost s u c.args.core.now in
-    let few : costing s u 0 c.args.core.now (length c.args.core.now.clauses) ≤ length c.args.core.now.clauses = count_most (λ (k : ℕ). is_as_much 0 (cost_of s u c.args.core.now k)) (length c.args.core.now.clauses) in
+    let few : costing s u 0 c.args.core.now (length c.args.core.now.clauses) ≤ length c.args.core.now.clauses =
+    count_most (λ (k : ℕ). is_as_much 0 (cost_of s u c.args.core.now k)) (length c.args.core.now.clauses) in
     omega (arith, full, c.loop-place.invariant.most, size, total, each, few, c.min-half.ensures, c.div_ceil.ensures, c.len.ensures, c.clauses-place.ensures, c.clauses-place.type_inv)
 
 pub returns-clause-most : goal.returns-clause-most

@@ -12,7 +12,9 @@ loop-hint-preserved c =
     let fits : SFits w64 (get_or hints at (pos 0)) = search rules in
     record {
       size = c.use_hint.ensures.size ∙ c.loop-hint.invariant.size;
-      used = λ rise. set_next c.args.self.now.ids.items is_hint_of hints at (pos 0) (to_z w64 (of_z w64 (get_or hints at (pos 0)))) c.args.used.now c.loop-hint.used c.use_hint.new.used c.loop-hint-test.true (to_z-of_z fits) c.loop-hint.invariant.size (c.loop-hint.invariant.used rise) (c.use_hint.ensures.used rise);
+      used = λ rise. set_next c.args.self.now.ids.items is_hint_of hints at (pos 0)
+          (to_z w64 (of_z w64 (get_or hints at (pos 0)))) c.args.used.now c.loop-hint.used c.use_hint.new.used c.loop-hint-test.true (to_z-of_z fits) c.loop-hint.invariant.size
+          (c.loop-hint.invariant.used rise) (c.use_hint.ensures.used rise);
     }
 
 pub returns-after-loop-hint-clause-used : goal.returns-after-loop-hint-clause-used

@@ -15,5 +15,7 @@ loop-step-preserved c =
       size = ap (λ (bs : List Bool). length bs) is ∙ size ∙ was.size;
       used = λ rise place id low at.
           ap (λ (bs : List Bool). get_or bs place true) is
-          ∙ step_next uses c.args.steps.now c.loop-step.step-index c.step-item.result c.step-item.result place id c.as_mut_slice.result.now now c.loop-step-test.true c.step-item.is (ap (λ (bs : List Bool). get_or bs place true) same ∙ was.used rise place id low at) (c.use_hints.ensures.used rise place id (omega (arith, low, was.size, ap (λ (bs : List Bool). length bs) same)) at);
+          ∙ step_next uses c.args.steps.now c.loop-step.step-index c.step-item.result c.step-item.result place id c.as_mut_slice.result.now now c.loop-step-test.true c.step-item.is
+          (ap (λ (bs : List Bool). get_or bs place true) same ∙ was.used rise place id low at)
+          (c.use_hints.ensures.used rise place id (omega (arith, low, was.size, ap (λ (bs : List Bool). length bs) same)) at);
     }

@@ -17,14 +17,16 @@ level_of-level-requires-clause-set c =
 pub overflow_add-self : goal.overflow_add-self
 overflow_add-self c =
     let off : IsTrue (is_on c.args.core.now.trail (negated c.args.lit)) = sym c.is_false.ensures ∙ c.if-not-is_false.false in
-    let counted = count_met c.args.core.now c.args.lit c.args.marks.now c.mark.new.self c.var.result c.level_of-level.result c.level.result c.args.self.now.current c.requires.sound off (sym c.has.ensures ∙ c.if-has.false) c.mark.ensures.marked c.var.ensures c.level_of-level.ensures c.level.ensures c.requires.counted in
+    let counted = count_met c.args.core.now c.args.lit c.args.marks.now c.mark.new.self c.var.result c.level_of-level.result c.level.result c.args.self.now.current c.requires.sound off
+    (sym c.has.ensures ∙ c.if-has.false) c.mark.ensures.marked c.var.ensures c.level_of-level.ensures c.level.ensures c.requires.counted in
     let one : once (c.level_of-level.result == c.level.result) ≡ 1 = ap once (eq-eqb c.level_of-level.result c.level.result c.if-level.true) in
     omega (arith, one, counted, open_few c.args.core.now.level c.args.core.now c.mark.new.self, c.requires.room.few)
 
 pub returns-in_ok-push-clause-counted : goal.returns-in_ok-push-clause-counted
 returns-in_ok-push-clause-counted c =
     let off : IsTrue (is_on c.args.core.now.trail (negated c.args.lit)) = sym c.is_false.ensures ∙ c.if-not-is_false.false in
-    let counted = count_met c.args.core.now c.args.lit c.args.marks.now c.mark.new.self c.var.result c.level_of-level.result c.level.result c.args.self.now.current c.requires.sound off (sym c.has.ensures ∙ c.if-has.false) c.mark.ensures.marked c.var.ensures c.level_of-level.ensures c.level.ensures c.requires.counted in
+    let counted = count_met c.args.core.now c.args.lit c.args.marks.now c.mark.new.self c.var.result c.level_of-level.result c.level.result c.args.self.now.current c.requires.sound off
+    (sym c.has.ensures ∙ c.if-has.false) c.mark.ensures.marked c.var.ensures c.level_of-level.ensures c.level.ensures c.requires.counted in
     elim c.if-level.branch [
       | then-level w ↦
           let one : once (c.level_of-level.result == c.level.result) ≡ 1 = ap once (eq-eqb c.level_of-level.result c.level.result w.if-level.true) in
@@ -37,7 +39,8 @@ returns-in_ok-push-clause-counted c =
 pub returns-else-level-gt0-clause-counted : goal.returns-else-level-gt0-clause-counted
 returns-else-level-gt0-clause-counted c =
     let off : IsTrue (is_on c.args.core.now.trail (negated c.args.lit)) = sym c.is_false.ensures ∙ c.if-not-is_false.false in
-    let counted = count_met c.args.core.now c.args.lit c.args.marks.now c.mark.new.self c.var.result c.level_of-level.result c.level.result c.args.self.now.current c.requires.sound off (sym c.has.ensures ∙ c.if-has.false) c.mark.ensures.marked c.var.ensures c.level_of-level.ensures c.level.ensures c.requires.counted in
+    let counted = count_met c.args.core.now c.args.lit c.args.marks.now c.mark.new.self c.var.result c.level_of-level.result c.level.result c.args.self.now.current c.requires.sound off
+    (sym c.has.ensures ∙ c.if-has.false) c.mark.ensures.marked c.var.ensures c.level_of-level.ensures c.level.ensures c.requires.counted in
     elim c.if-level.branch [
       | then-level w ↦
           let one : once (c.level_of-level.result == c.level.result) ≡ 1 = ap once (eq-eqb c.level_of-level.result c.level.result w.if-level.true) in

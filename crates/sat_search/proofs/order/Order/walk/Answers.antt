@@ -9,13 +9,17 @@ assume-requires-clause-active c =
 
 pub returns-in-Some-assume-clause-waiting : goal.returns-in-Some-assume-clause-waiting
 returns-in-Some-assume-clause-waiting c =
-    waits_without c.loop-var.core c.assume.new.core c.loop-var.self (record c.loop-var.self { heap = c.take_first.new.self }) c.in-Some.var c.loop-var.invariant.waiting c.assume.ensures.kept.vars c.assume.ensures.stays c.in-Some.ensures.taken.gone c.assume.ensures.set
+    waits_without c.loop-var.core c.assume.new.core c.loop-var.self
+    (record c.loop-var.self { heap = c.take_first.new.self }) c.in-Some.var c.loop-var.invariant.waiting c.assume.ensures.kept.vars c.assume.ensures.stays
+    c.in-Some.ensures.taken.gone c.assume.ensures.set
 
 pub loop-var-preserved : goal.loop-var-preserved
 loop-var-preserved c = record {
   order = search rules;
   rates = ap (λ (o : Order). record o { heap = c.take_first.new.self }) c.loop-var.invariant.rates;
-  waiting = waits_without c.loop-var.core c.assume.new.core c.loop-var.self (record c.loop-var.self { heap = c.take_first.new.self }) c.in-Some.var c.loop-var.invariant.waiting c.assume.ensures.kept.vars c.assume.ensures.stays c.in-Some.ensures.taken.gone c.assume.ensures.set;
+  waiting = waits_without c.loop-var.core c.assume.new.core c.loop-var.self
+      (record c.loop-var.self { heap = c.take_first.new.self }) c.in-Some.var c.loop-var.invariant.waiting c.assume.ensures.kept.vars c.assume.ensures.stays c.in-Some.ensures.taken.gone
+      c.assume.ensures.set;
   sound = search rules;
   kept = search rules;
   rest = search rules;

@@ -81,7 +81,8 @@ returns-clause-put c =
     let ws = c.rise.new.vars in
     let is = with_items_is c.push.new.self ws (omega (arith, c.rise.auto.vars, ap length c.deref_mut.ensures.value, c.push.new.self.ok.0)) in
     let held = put-held t.vars.items t.places.items c.deref_mut.result.now c.deref_mut-2.result.now ws c.rise.new.places v c.len-place.result put c.rise.ensures.inverse c.rise.ensures.same in
-    subst (λ (zs : List ℕ). (w : ℕ) → Contains zs w ↔ (Contains c.args.self.now.vars w ⊎ (w ≡ v))) (sym is) (subst (λ (h : Heap). (w : ℕ) → Contains ws w ↔ (Contains h.vars w ⊎ (w ≡ v))) c.self.view_is held)
+    subst (λ (zs : List ℕ). (w : ℕ) → Contains zs w ↔ (Contains c.args.self.now.vars w ⊎ (w ≡ v))) (sym is)
+    (subst (λ (h : Heap). (w : ℕ) → Contains ws w ↔ (Contains h.vars w ⊎ (w ≡ v))) c.self.view_is held)
 
 pub returns-clause-order : goal.returns-clause-order
 returns-clause-order c =
@@ -104,4 +105,5 @@ returns-clause-order c =
     let ws = c.rise.new.vars in
     let is = with_items_is c.push.new.self ws (omega (arith, c.rise.auto.vars, ap length c.deref_mut.ensures.value, c.push.new.self.ok.0)) in
     let ordered = subst (λ (h : Heap). IsOrdered activity h.vars) (sym c.self.view_is) c.requires.order in
-    subst (λ (zs : List ℕ). IsOrdered activity zs) (sym is) (c.rise.ensures.order (put-order activity t.vars.items t.places.items c.deref_mut.result.now c.deref_mut-2.result.now v c.len-place.result put ordered))
+    subst (λ (zs : List ℕ). IsOrdered activity zs) (sym is)
+    (c.rise.ensures.order (put-order activity t.vars.items t.places.items c.deref_mut.result.now c.deref_mut-2.result.now v c.len-place.result put ordered))

@@ -16,8 +16,10 @@ invariant_of-self-then-is_empty c =
     let ys = c.pop.new.self.items in
     let l : IsLonger t.vars.items ys last = longer t.vars.items ys last c.in_ok-last.ensures.items in
     let none : c.pop.new.self.len ≡ 0 = eqb-true c.pop.new.self.len 0 (sym c.is_empty.ensures ∙ c.if-is_empty.true) in
-    let out : IsOut t.vars.items t.places.items ys (set t.places.items last 0) last = out-last t.vars.items ys t.places.items last l (omega (arith, c.pop.new.self.ok.0)) c.self.invariant.inverse c.self.invariant.zero in
-    kept t _ ys (set t.places.items last 0) c.self.invariant refl refl out.new (zero-out t.vars.items t.places.items ys (set t.places.items last 0) last out) (length-set t.places.items last 0) (omega (arith, c.pop.ensures.capacity))
+    let out : IsOut t.vars.items t.places.items ys (set t.places.items last 0) last =
+    out-last t.vars.items ys t.places.items last l (omega (arith, c.pop.new.self.ok.0)) c.self.invariant.inverse c.self.invariant.zero in
+    kept t _ ys (set t.places.items last 0) c.self.invariant refl refl out.new (zero-out t.vars.items t.places.items ys (set t.places.items last 0) last out)
+    (length-set t.places.items last 0) (omega (arith, c.pop.ensures.capacity))
 
 pub returns-then-is_empty-clause-taken : goal.returns-then-is_empty-clause-taken
 returns-then-is_empty-clause-taken c =
@@ -79,12 +81,14 @@ invariant_of-self-2 c =
     let some : c.pop.new.self.len ≢ 0 = eqb-false c.pop.new.self.len 0 (sym c.is_empty.ensures ∙ c.if-is_empty.false) in
     let within : 0 < length ys = omega (arith, c.pop.new.self.ok.0) in
     let f : first ≡ get_or ys 0 0 = c.index-first.ensures ∙ get_or_default ys 0 first 0 within in
-    let out : IsOut t.vars.items t.places.items ws rs first = out-first t.vars.items ys t.places.items c.deref_mut-2.result.now ws rs last first l within c.self.invariant.inverse c.self.invariant.zero f c.deref_mut-2.ensures.value c.sink.ensures.inverse c.sink.ensures.same in
+    let out : IsOut t.vars.items t.places.items ws rs first = out-first t.vars.items ys t.places.items c.deref_mut-2.result.now ws rs last first l within c.self.invariant.inverse
+    c.self.invariant.zero f c.deref_mut-2.ensures.value c.sink.ensures.inverse c.sink.ensures.same in
     let cut = with_item t.places first 0 in
     let cut_size : length (set t.places.items first 0) ≡ length t.places.items = length-set t.places.items first 0 in
     let vars_is = with_items_is c.pop.new.self ws (omega (arith, c.sink.auto.vars, ap length c.deref_mut.ensures.value, c.pop.new.self.ok.0)) in
     let places_is = with_items_is cut rs (omega (arith, c.sink.auto.places, ap length c.deref_mut-2.ensures.value, t.places.ok.0)) in
-    kept t _ ws rs c.self.invariant vars_is places_is c.sink.ensures.inverse (zero-out t.vars.items t.places.items ws rs first out) (omega (arith, c.sink.auto.places, ap length c.deref_mut-2.ensures.value)) (omega (arith, c.pop.ensures.capacity))
+    kept t _ ws rs c.self.invariant vars_is places_is c.sink.ensures.inverse (zero-out t.vars.items t.places.items ws rs first out)
+    (omega (arith, c.sink.auto.places, ap length c.deref_mut-2.ensures.value)) (omega (arith, c.pop.ensures.capacity))
 
 pub returns-clause-taken : goal.returns-clause-taken
 returns-clause-taken c =
@@ -99,11 +103,13 @@ returns-clause-taken c =
     let some : c.pop.new.self.len ≢ 0 = eqb-false c.pop.new.self.len 0 (sym c.is_empty.ensures ∙ c.if-is_empty.false) in
     let within : 0 < length ys = omega (arith, c.pop.new.self.ok.0) in
     let f : first ≡ get_or ys 0 0 = c.index-first.ensures ∙ get_or_default ys 0 first 0 within in
-    let out : IsOut t.vars.items t.places.items ws rs first = out-first t.vars.items ys t.places.items c.deref_mut-2.result.now ws rs last first l within c.self.invariant.inverse c.self.invariant.zero f c.deref_mut-2.ensures.value c.sink.ensures.inverse c.sink.ensures.same in
+    let out : IsOut t.vars.items t.places.items ws rs first = out-first t.vars.items ys t.places.items c.deref_mut-2.result.now ws rs last first l within c.self.invariant.inverse
+    c.self.invariant.zero f c.deref_mut-2.ensures.value c.sink.ensures.inverse c.sink.ensures.same in
     let vars_is = with_items_is c.pop.new.self ws (omega (arith, c.sink.auto.vars, ap length c.deref_mut.ensures.value, c.pop.new.self.ok.0)) in
     let ordered = subst (λ (h : Heap). IsOrdered activity h.vars) (sym c.self.view_is) c.requires.order in
     let new : Heap = record { vars = (with_items c.pop.new.self ws).items; limit = length (with_items (with_item t.places first 0) rs).items } in
-    subst (λ (h : Heap). IsTaken activity h new first) c.self.view_is (taken activity t.vars.items t.places.items ws rs first new out ordered vars_is (omega (arith, c.sink.auto.vars, ap length c.deref_mut.ensures.value, l.size)))
+    subst (λ (h : Heap). IsTaken activity h new first) c.self.view_is
+    (taken activity t.vars.items t.places.items ws rs first new out ordered vars_is (omega (arith, c.sink.auto.vars, ap length c.deref_mut.ensures.value, l.size)))
 
 pub returns-clause-order : goal.returns-clause-order
 returns-clause-order c =

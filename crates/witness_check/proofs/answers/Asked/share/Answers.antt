@@ -21,7 +21,8 @@ pub returns-then-entry-self : goal.returns-then-entry-self
 returns-then-entry-self c p at =
     let e : PacketEntry = get_or c.args.self.now.entries.now c.in-Some.place c.index-self-place.result in
     first_decides c.args.class c.args.self.now.entries.now c.in-Some.place c.index-self-place.result (sym c.first_met.ensures ∙ c.in-Some.is) c.index-self-place.is
-    (ap (λ (x : PacketEntry). splits c.args.class (entry_class x)) c.index-self-place.is ∙ ap (λ (d : Class). splits c.args.class d) (sym c.entry_class.ensures) ∙ sym c.splits.ensures ∙ c.if-not-splits.true) p at
+    (ap (λ (x : PacketEntry). splits c.args.class (entry_class x)) c.index-self-place.is ∙ ap (λ (d : Class). splits c.args.class d) (sym c.entry_class.ensures) ∙ sym c.splits.ensures
+    ∙ c.if-not-splits.true) p at
     ∙ ap (λ (x : PacketEntry). x.permit) c.index-self-place.is ∙ same_answer e.permit c.args.self.now.answer c.if-entry-self.true
 
 pub returns-else-entry-self : goal.returns-else-entry-self
@@ -30,7 +31,8 @@ returns-else-entry-self c p at gets =
     other_answer e.permit c.args.self.now.answer c.if-entry-self.false
     (ap (λ (x : PacketEntry). x.permit) (sym c.index-self-place.is)
     ∙ sym (first_decides c.args.class c.args.self.now.entries.now c.in-Some.place c.index-self-place.result (sym c.first_met.ensures ∙ c.in-Some.is) c.index-self-place.is
-    (ap (λ (x : PacketEntry). splits c.args.class (entry_class x)) c.index-self-place.is ∙ ap (λ (d : Class). splits c.args.class d) (sym c.entry_class.ensures) ∙ sym c.splits.ensures ∙ c.if-not-splits.true) p at)
+    (ap (λ (x : PacketEntry). splits c.args.class (entry_class x)) c.index-self-place.is ∙ ap (λ (d : Class). splits c.args.class d) (sym c.entry_class.ensures) ∙ sym c.splits.ensures
+    ∙ c.if-not-splits.true) p at)
     ∙ gets)
 
 pub returns-then-shows_none : goal.returns-then-shows_none
@@ -46,6 +48,7 @@ returns c =
     record {
       entry = c.index-self-place.result;
       at_place = slice_get_read c.args.self.now.entries.now (length c.args.self.now.entries.now) c.in-Some.place c.index-self-place.result refl first.inside c.index-self-place.is;
-      splitting = ap (λ (x : PacketEntry). splits c.args.class (entry_class x)) c.index-self-place.is ∙ ap (λ (d : Class). splits c.args.class d) (sym c.entry_class.ensures) ∙ sym c.splits.ensures ∙ c.if-not-splits.false;
+      splitting = ap (λ (x : PacketEntry). splits c.args.class (entry_class x)) c.index-self-place.is ∙ ap (λ (d : Class). splits c.args.class d) (sym c.entry_class.ensures)
+          ∙ sym c.splits.ensures ∙ c.if-not-splits.false;
       rest = first.rest;
     }

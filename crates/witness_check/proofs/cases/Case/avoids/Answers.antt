@@ -16,7 +16,8 @@ pub loop-link-preserved : goal.loop-link-preserved
 loop-link-preserved c =
     goes_on_at c.args.self.now.net.now c.args.self.now.to (Avoids c.args.other.0) c.requires.valid
     (IsTrail c.args.self.now.net.now c.args.self.now.to (Avoids c.args.other.0) c.args.from.0 c.args.links.now c.args.self.now.target.now.router.0)
-    c.loop-link.router.0 c.args.links.now c.loop-link.link-index _ c.args.self.now.target.now.router.0 (arc_of c.in-Some.arc) (omega arith) c.in-Some.ensures.found c.if-arc-other.false c.loop-link.invariant
+    c.loop-link.router.0 c.args.links.now c.loop-link.link-index _ c.args.self.now.target.now.router.0 (arc_of c.in-Some.arc)
+    (omega arith) c.in-Some.ensures.found c.if-arc-other.false c.loop-link.invariant
 
 pub returns : goal.returns
 returns c =

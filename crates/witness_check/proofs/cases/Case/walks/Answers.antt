@@ -10,7 +10,8 @@ pub returns-then-goes_once : goal.returns-then-goes_once
 returns-then-goes_once c = (
   λ t. let once : IsTrailOnce c.args.self.now.net.now c.args.self.now.to c.args.self.now.source.now.router.0 c.args.links.now c.args.self.now.target.now.router.0 =
       c.goes_once.ensures.0 c.if-goes_once.true in
-      let trail : IsTrail c.args.self.now.net.now c.args.self.now.to (MayCarry c.args.self.now.net.now c.args.kind c.args.class) c.args.self.now.source.now.router.0 c.args.links.now c.args.self.now.target.now.router.0 =
+      let trail : IsTrail c.args.self.now.net.now c.args.self.now.to
+      (MayCarry c.args.self.now.net.now c.args.kind c.args.class) c.args.self.now.source.now.router.0 c.args.links.now c.args.self.now.target.now.router.0 =
       c.carries.ensures.0 t in
       record {
         arcs = once.arcs;
@@ -18,7 +19,8 @@ returns-then-goes_once c = (
         leads = once.leads;
         once = once.once;
         each = subst (λ (arcs : List Arc). AllByRecursion (MayCarry c.args.self.now.net.now c.args.kind c.args.class) arcs)
-            (one_way c.args.self.now.net.now c.args.self.now.to c.requires.valid c.args.self.now.source.now.router.0 c.args.self.now.target.now.router.0 c.args.self.now.target.now.router.0 c.args.links.now
+            (one_way c.args.self.now.net.now c.args.self.now.to c.requires.valid c.args.self.now.source.now.router.0 c.args.self.now.target.now.router.0
+            c.args.self.now.target.now.router.0 c.args.links.now
             trail.arcs once.arcs trail.over once.over trail.leads once.leads) trail.each;
       },
   λ walk. c.carries.ensures.1 (record { arcs = walk.arcs; over = walk.over; leads = walk.leads; each = walk.each }),
