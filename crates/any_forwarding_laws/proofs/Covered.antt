@@ -3,7 +3,7 @@ use Rattle.std.proofs.Common.{ℕ, List, [], ◌∷◌, ap, subst}
 use Rattle.net_model.specs.declared.lists.Packet.{Packet}
 use Rattle.net_model.specs.declared.policies.Class.{Class}
 use Rattle.net_model.specs.declared.rows.Network.{Network}
-use Rattle.net_model.specs.Packets.{IsOf}
+use Rattle.net_model.specs.Packets.{IsOfClass}
 use Rattle.net_model.specs.Routing.{Arc, tail_router, head_router}
 use Rattle.net_model.specs.Forwarding.{Ends, Enters, Leaves, source_router, target_router}
 use Rattle.net_model.specs.Policies.{CrossesWaypoint}
@@ -13,7 +13,7 @@ use Rattle.any_forwarding_laws.specs.Laws.{CarriesAlike, CoveredDeliveriesAreCar
 use Rattle.any_forwarding_laws.proofs.Ways.{OverWaypoint, Any-here, Any-there, crosses_none, in_a_row, more}
 use Rattle.any_forwarding_laws.proofs.ClosedSides.{blocked_carries_none, through_crosses}
 
-module _ (copy net : Network) (copied ends : Ends) (class : Class) (covers : Covers copy copied net ends class) (p : Packet) (of : IsOf class p) where
+module _ (copy net : Network) (copied ends : Ends) (class : Class) (covers : Covers copy copied net ends class) (p : Packet) (of : IsOfClass class p) where
   along : (arcs : List Arc) (u v : ℕ) → Way net p u arcs v → HasWay copy p (covers.place u) (covers.place v) (CrossesWaypoint arcs)
   along [] u v way = record { arcs = []; way = ap covers.place way; crosses = λ c. absurd (crosses_none c) }
   along (arc ∷ arcs) u v way =
@@ -62,11 +62,11 @@ covers_in_turn last copy net last_ends copied ends class outer inner =
     let place : ℕ → ℕ = λ u. outer.place (inner.place u) in
     record {
       place = place;
-      arcs = λ (p : Packet) (of : IsOf class p) arc is permits.
+      arcs = λ (p : Packet) (of : IsOfClass class p) arc is permits.
           let way : HasWay copy p (inner.place (tail_router arc)) (inner.place (head_router arc)) (OverWaypoint arc) = inner.arcs p of arc is permits in
           more last p (place (tail_router arc)) (place (head_router arc)) (CrossesWaypoint way.arcs) (OverWaypoint arc) way.crosses
           (along last copy last_ends copied class outer p of way.arcs (inner.place (tail_router arc)) (inner.place (head_router arc)) way.way);
-      enters = λ (p : Packet) (of : IsOf class p) (e : Enters net ends p).
+      enters = λ (p : Packet) (of : IsOfClass class p) (e : Enters net ends p).
           let near = inner.enters p of e in
           let far = outer.enters p of near.0 in
           let way : HasWay copy p (source_router copied) (inner.place (source_router ends)) ⊥ = near.1 in
@@ -74,7 +74,7 @@ covers_in_turn last copy net last_ends copied ends class outer inner =
           more last p (outer.place (source_router copied)) (place (source_router ends)) (CrossesWaypoint way.arcs) ⊥ way.crosses
           (along last copy last_ends copied class outer p of way.arcs (source_router copied) (inner.place (source_router ends)) way.way) in
           (far.0, in_a_row last p (source_router last_ends) (outer.place (source_router copied)) (place (source_router ends)) ⊥ far.1 rest);
-      leaves = λ (p : Packet) (of : IsOf class p) (l : Leaves net ends p).
+      leaves = λ (p : Packet) (of : IsOfClass class p) (l : Leaves net ends p).
           let near = inner.leaves p of l in
           let far = outer.leaves p of near.0 in
           let way : HasWay copy p (inner.place (target_router ends)) (target_router copied) ⊥ = near.1 in

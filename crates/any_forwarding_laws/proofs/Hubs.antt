@@ -7,7 +7,7 @@ use Rattle.net_model.specs.declared.policies.Class.{Class}
 use Rattle.net_model.specs.declared.rows.FaceRow.{FaceRow}
 use Rattle.net_model.specs.declared.rows.LinkRow.{LinkRow}
 use Rattle.net_model.specs.declared.rows.Network.{Network}
-use Rattle.net_model.specs.Packets.{IsOf}
+use Rattle.net_model.specs.Packets.{IsOfClass}
 use Rattle.net_model.specs.Routing.{Arc, tail_end, head_end, tail_face, head_face, tail_router, head_router}
 use Rattle.net_model.specs.Forwarding.{Ends, ListPermits, ArcPermits, Enters, Leaves, source_router, target_router}
 use Rattle.any_forwarding_laws.specs.Forwardings.{IsUpArc}
@@ -25,7 +25,7 @@ turned_head : (row : LinkRow) (from_a : Bool) → head_end row (not from_a) ≡ 
 turned_head row true = refl
 turned_head row false = refl
 
-module _ (copy : Network) (class : Class) (hub : ℕ) (p : Packet) (of : IsOf class p) (place : ℕ) (wide : FaceRow) (at : slice_get copy.faces place ≡ Some wide)
+module _ (copy : Network) (class : Class) (hub : ℕ) (p : Packet) (of : IsOfClass class p) (place : ℕ) (wide : FaceRow) (at : slice_get copy.faces place ≡ Some wide)
     (may : Type 0) (spoke : HasSpoke copy class hub place may) (up : IsTrue wide.up) where
   at_near : slice_get copy.faces (tail_end spoke.row spoke.inward).0 ≡ Some wide
   at_near = subst (λ (k : ℕ). slice_get copy.faces k ≡ Some wide) (sym spoke.near) at
@@ -79,7 +79,7 @@ head_spoke : (copy : Network) (class : Class) (hub : ℕ) (row : LinkRow) (from_
 head_spoke copy class hub row true may a b = b
 head_spoke copy class hub row false may a b = a
 
-module _ (copy net : Network) (class : Class) (hub : ℕ) (faces : HasWiderFaces copy net class) (p : Packet) (of : IsOf class p) where
+module _ (copy net : Network) (class : Class) (hub : ℕ) (faces : HasWiderFaces copy net class) (p : Packet) (of : IsOfClass class p) where
   over_hub : (arc : Arc) → IsUpArc net arc → ArcPermits net arc p → HasSpoke copy class hub arc.row.a.0 (OverWaypoint arc) →
       HasSpoke copy class hub arc.row.b.0 (OverWaypoint arc) → HasWay copy p (tail_router arc) (head_router arc) (OverWaypoint arc)
   over_hub arc is permits a b =

@@ -6,7 +6,7 @@ use Rattle.net_model.specs.declared.policies.Class.{Class}
 use Rattle.net_model.specs.declared.rows.FaceRow.{FaceRow}
 use Rattle.net_model.specs.declared.rows.LinkRow.{LinkRow}
 use Rattle.net_model.specs.declared.rows.Network.{Network}
-use Rattle.net_model.specs.Packets.{IsOf}
+use Rattle.net_model.specs.Packets.{IsOfClass}
 use Rattle.net_model.specs.Routing.{Arc, tail_face, head_face, tail_router, head_router}
 use Rattle.net_model.specs.Forwarding.{Ends, ArcPermits, Enters, Leaves, source_router, target_router}
 use Rattle.any_forwarding_laws.specs.Forwardings.{IsUpArc}
@@ -14,7 +14,7 @@ use Rattle.any_forwarding_laws.specs.Copies.{HasWay, IsWiderFace, HasWiderFaces}
 use Rattle.any_forwarding_laws.specs.Laws.{WiderCopiesCover, EachCoversItself, HubsLeadOn}
 use Rattle.any_forwarding_laws.proofs.Ways.{OverWaypoint, crosses_none, crosses_one, crosses_two}
 
-module _ (copy net : Network) (class : Class) (faces : HasWiderFaces copy net class) (p : Packet) (of : IsOf class p) where
+module _ (copy net : Network) (class : Class) (faces : HasWiderFaces copy net class) (p : Packet) (of : IsOfClass class p) where
   -- the arc over a link of the same row leads the packet the same way
   pub wide_arc : (arc : Arc) → IsUpArc net arc → ArcPermits net arc p → (link : ℕ) → slice_get copy.links link ≡ Some arc.row →
       HasWay copy p (tail_router arc) (head_router arc) (OverWaypoint arc)
@@ -34,14 +34,14 @@ module _ (copy net : Network) (class : Class) (faces : HasWiderFaces copy net cl
       }
 
 module _ (copy net : Network) (copied ends : Ends) (class : Class) where
-  pub enters_wide : IsWiderFace copy copied.source net ends.source class → (p : Packet) → IsOf class p → Enters net ends p →
+  pub enters_wide : IsWiderFace copy copied.source net ends.source class → (p : Packet) → IsOfClass class p → Enters net ends p →
       Enters copy copied p × HasWay copy p (source_router copied) (source_router ends) ⊥
   enters_wide wider p of enters = (
     (wider.up enters.0, wider.inbound p of enters.1),
     record { arcs = []; way = sym wider.router; crosses = λ c. crosses_none c },
   )
 
-  pub leaves_wide : IsWiderFace copy copied.target net ends.target class → (p : Packet) → IsOf class p → Leaves net ends p →
+  pub leaves_wide : IsWiderFace copy copied.target net ends.target class → (p : Packet) → IsOfClass class p → Leaves net ends p →
       Leaves copy copied p × HasWay copy p (target_router ends) (target_router copied) ⊥
   leaves_wide wider p of leaves = (
     (wider.up leaves.0, wider.outbound p of leaves.1),

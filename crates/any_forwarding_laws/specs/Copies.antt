@@ -4,7 +4,7 @@ use Rattle.net_model.specs.declared.lists.Packet.{Packet}
 use Rattle.net_model.specs.declared.policies.Class.{Class}
 use Rattle.net_model.specs.declared.rows.FaceRow.{FaceRow}
 use Rattle.net_model.specs.declared.rows.Network.{Network}
-use Rattle.net_model.specs.Packets.{IsOf}
+use Rattle.net_model.specs.Packets.{IsOfClass}
 use Rattle.net_model.specs.Routing.{Arc, tail_router, head_router}
 use Rattle.net_model.specs.Forwarding.{Ends, ListPermits, ArcPermits, Enters, Leaves}
 use Rattle.net_model.specs.Forwarding.{source_router, target_router}
@@ -25,11 +25,12 @@ pub record HasWay (net : Network) (p : Packet) (u v : ℕ) (may_cross : Type 0) 
 pub record Covers (copy : Network) (copied : Ends) (net : Network) (ends : Ends)
     (class : Class) : Type 0 where
   pub place : ℕ → ℕ
-  pub arcs : (p : Packet) → IsOf class p → (arc : Arc) → IsUpArc net arc → ArcPermits net arc p →
+  pub arcs : (p : Packet) → IsOfClass class p → (arc : Arc) → IsUpArc net arc →
+      ArcPermits net arc p →
       HasWay copy p (place (tail_router arc)) (place (head_router arc)) (IsTrue arc.row.waypoint)
-  pub enters : (p : Packet) → IsOf class p → Enters net ends p →
+  pub enters : (p : Packet) → IsOfClass class p → Enters net ends p →
       Enters copy copied p × HasWay copy p (source_router copied) (place (source_router ends)) ⊥
-  pub leaves : (p : Packet) → IsOf class p → Leaves net ends p →
+  pub leaves : (p : Packet) → IsOfClass class p → Leaves net ends p →
       Leaves copy copied p × HasWay copy p (place (target_router ends)) (target_router copied) ⊥
 
 -- the interface of the copy is wider than that of the network for a class: it is of the same
@@ -39,9 +40,9 @@ pub record IsWiderFace (copy : Network) (wide : FaceRow) (net : Network) (face :
     (class : Class) : Type 0 where
   pub router : face.router.0 ≡ wide.router.0
   pub up : IsTrue face.up → IsTrue wide.up
-  pub inbound : (p : Packet) → IsOf class p → ListPermits net face.list_in p →
+  pub inbound : (p : Packet) → IsOfClass class p → ListPermits net face.list_in p →
       ListPermits copy wide.list_in p
-  pub outbound : (p : Packet) → IsOf class p → ListPermits net face.list_out p →
+  pub outbound : (p : Packet) → IsOfClass class p → ListPermits net face.list_out p →
       ListPermits copy wide.list_out p
 
 -- the copy has a wider interface at the place of each interface of the network
@@ -69,11 +70,11 @@ pub record LeadsOverHub (copy net : Network) (class : Class) (arc : Arc) : Type 
   pub tail : tail_router there ≡ tail_router arc
   pub hub : tail_router onward ≡ head_router there
   pub head : head_router onward ≡ head_router arc
-  pub outbound : (p : Packet) → IsOf class p → ListPermits net arc.tail.list_out p →
+  pub outbound : (p : Packet) → IsOfClass class p → ListPermits net arc.tail.list_out p →
       ListPermits copy there.tail.list_out p
-  pub at_hub : (p : Packet) → IsOf class p →
+  pub at_hub : (p : Packet) → IsOfClass class p →
       ListPermits copy there.head.list_in p × ListPermits copy onward.tail.list_out p
-  pub inbound : (p : Packet) → IsOf class p → ListPermits net arc.head.list_in p →
+  pub inbound : (p : Packet) → IsOfClass class p → ListPermits net arc.head.list_in p →
       ListPermits copy onward.head.list_in p
   pub waypoint : IsTrue there.row.waypoint ⊎ IsTrue onward.row.waypoint →
       IsTrue arc.row.waypoint

@@ -6,7 +6,7 @@ use Rattle.net_model.specs.declared.policies.Class.{Class}
 use Rattle.net_model.specs.declared.rows.FaceRow.{FaceRow}
 use Rattle.net_model.specs.declared.rows.LinkRow.{LinkRow}
 use Rattle.net_model.specs.declared.rows.Network.{Network}
-use Rattle.net_model.specs.Packets.{IsOf}
+use Rattle.net_model.specs.Packets.{IsOfClass}
 use Rattle.net_model.specs.Routing.{tail_end, head_end}
 use Rattle.net_model.specs.Forwarding.{Ends, ListPermits}
 use Rattle.any_forwarding_laws.specs.Copies.{IsWiderFace, HasWiderFaces, Covers}
@@ -15,8 +15,8 @@ use Rattle.any_forwarding_laws.specs.Copies.{IsWiderFace, HasWiderFaces, Covers}
 pub record IsHubFace (copy : Network) (class : Class) (hub : ℕ) (face : FaceRow) : Type 0 where
   pub router : face.router.0 ≡ hub
   pub up : IsTrue face.up
-  pub inbound : (p : Packet) → IsOf class p → ListPermits copy face.list_in p
-  pub outbound : (p : Packet) → IsOf class p → ListPermits copy face.list_out p
+  pub inbound : (p : Packet) → IsOfClass class p → ListPermits copy face.list_in p
+  pub outbound : (p : Packet) → IsOfClass class p → ListPermits copy face.list_out p
 
 -- the interface at this place has a spoke: a link of the copy that joins it to an interface of the
 -- hub, and is a waypoint only if it may be

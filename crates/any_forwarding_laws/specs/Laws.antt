@@ -13,7 +13,7 @@ use Rattle.net_model.specs.declared.verdicts.ClassSide.{ClassSide}
 use Rattle.net_model.specs.declared.verdicts.LinkPath.{LinkPath}
 use Rattle.net_model.specs.declared.verdicts.Verdict.{Verdict}
 use Rattle.net_model.specs.Validity.{IsLinkEnd}
-use Rattle.net_model.specs.Packets.{IsOf, subject}
+use Rattle.net_model.specs.Packets.{IsOfClass, subject}
 use Rattle.net_model.specs.Routing.{Arc, FailureSet, DistanceMap, tail_router, head_router}
 use Rattle.net_model.specs.Forwarding.{Ends, AreEnds, ArcPermits, IsDelivered}
 use Rattle.net_model.specs.Policies.{CrossesWaypoint, IsBlocked, GoesThrough}
@@ -106,7 +106,7 @@ pub record CarriesAlike (copy : Network) (copied : Ends) (p : Packet)
 abbrev pub CoveredDeliveriesAreCarried : Type 0
 CoveredDeliveriesAreCarried =
     (copy net : Network) (copied ends : Ends) (class : Class) → Covers copy copied net ends class →
-    (p : Packet) → IsOf class p →
+    (p : Packet) → IsOfClass class p →
     (arcs : List Arc) → IsCarried net ends p arcs → CarriesAlike copy copied p arcs
 
 -- so right closed sides of an open copy show that no forwarding of the network delivers a packet
@@ -146,5 +146,5 @@ CoversInTurn =
 abbrev pub HubsLeadOn : Type 0
 HubsLeadOn =
     (copy net : Network) (class : Class) (arc : Arc) → LeadsOverHub copy net class arc →
-    (p : Packet) → IsOf class p → ArcPermits net arc p →
+    (p : Packet) → IsOfClass class p → ArcPermits net arc p →
     HasWay copy p (tail_router arc) (head_router arc) (IsTrue arc.row.waypoint)

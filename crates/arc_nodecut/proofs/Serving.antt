@@ -4,7 +4,7 @@ use Rattle.std.proofs.lemmas.Bool.{false≢true}
 use Rattle.net_model.specs.declared.lists.Packet.{Packet}
 use Rattle.net_model.specs.declared.policies.Class.{Class}
 use Rattle.net_model.specs.declared.rows.Network.{Network}
-use Rattle.net_model.specs.Packets.{IsOf}
+use Rattle.net_model.specs.Packets.{IsOfClass}
 use Rattle.net_model.specs.Forwarding.{Ends, Enters, Leaves, source_router, target_router}
 use Rattle.net_model.specs.Policies.{IsClear}
 use Rattle.arc_base.specs.declared.place.Link.{Link}
@@ -13,7 +13,7 @@ use Rattle.arc_nodecut.specs.Judged.{IsJoin}
 use Rattle.arc_nodecut.proofs.Judging.{join_of, ends_of}
 
 -- a class that passes is served exactly if it is clear
-pub served_if : (net : Network) (ends : Ends) (whole : Class) → ((p : Packet) → IsOf whole p → Enters net ends p) × ((p : Packet) → IsOf whole p → Leaves net ends p) →
+pub served_if : (net : Network) (ends : Ends) (whole : Class) → ((p : Packet) → IsOfClass whole p → Enters net ends p) × ((p : Packet) → IsOfClass whole p → Leaves net ends p) →
     (b : Bool) → (IsTrue b ↔ IsClear net ends whole) → IsTrue b ↔ IsServed net ends whole
 served_if net ends whole passes b tells = (
   λ t. record { clear = tells.0 t; enters = passes.0; leaves = passes.1 },
@@ -21,7 +21,7 @@ served_if net ends whole passes b tells = (
 )
 
 pub not_served : (net : Network) (ends : Ends) (whole : Class) (b : Bool) →
-    (IsTrue b ↔ (((p : Packet) → IsOf whole p → Enters net ends p) × ((p : Packet) → IsOf whole p → Leaves net ends p))) → b ≡ false →
+    (IsTrue b ↔ (((p : Packet) → IsOfClass whole p → Enters net ends p) × ((p : Packet) → IsOfClass whole p → Leaves net ends p))) → b ≡ false →
     IsTrue false ↔ IsServed net ends whole
 not_served net ends whole b tells off = (λ t. absurd (false≢true t), λ served. absurd (false≢true (sym off ∙ tells.1 (served.enters, served.leaves))))
 

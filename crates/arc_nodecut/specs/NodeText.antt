@@ -6,7 +6,7 @@ use Rattle.std.specs.Option.{option_map_or}
 use Rattle.arc_base.specs.declared.place.Router.{Router}
 use Rattle.net_model.specs.declared.rows.Network.{Network}
 use Rattle.policy_report.specs.Lines.{line}
-use Rattle.policy_report.specs.Reports.{class_words, side_words, path_line, refused_line}
+use Rattle.policy_report.specs.Reports.{class_words, router_side_words, path_line, refused_line}
 use Rattle.arc_nodecut.specs.declared.verdict.NodeVerdict.{NodeVerdict}
 use Rattle.arc_nodecut.specs.declared.verdict.NodeVerdict.TheVariants.{Same, Direct, Apart, Denied}
 use Rattle.arc_nodecut.specs.declared.verdict.NodeVerdict.TheVariants.{Cut, Refused}
@@ -35,7 +35,7 @@ node_witness_lines net (Direct link) = line (codes "arc") (decimal (link.0 + 1) 
 node_witness_lines net (Apart paths) = map path_line paths
 node_witness_lines net (Denied class) = line (codes "denied") (class_words class) ∷ []
 node_witness_lines net (Cut routers side) =
-    cut_line net routers ∷ line (codes "side") (side_words net.routers side) ∷ []
+    cut_line net routers ∷ line (codes "side") (router_side_words net.routers side) ∷ []
 node_witness_lines net (Refused p link) = refused_line p link ∷ []
 
 -- the line with the number of routers that may fail, the answer, and the number of lines that

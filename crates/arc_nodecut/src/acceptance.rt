@@ -5,7 +5,7 @@ ghost use Rattle.net_model.specs.Forwarding.{HasEnds};
 ghost use Rattle.net_model.specs.Packets.{subject};
 ghost use Rattle.net_model.specs.Validity.{IsValid};
 ghost use Rattle.std.specs.Prelude.{◌↔◌, IsTrue};
-ghost use Rattle.witness_check.specs.Cases.{IsTold, ends_of};
+ghost use Rattle.witness_check.specs.Cases.{CaseHolds, ends_in};
 
 use crate::apart::is_right_apart;
 use crate::cases::{is_right_direct, is_right_same};
@@ -36,9 +36,9 @@ pub fn accepts_nodes(net: &Network, policy: &Policy, v: &NodeVerdict) -> bool
 /// Whether the case's routers and links show that the verdict is right; false for a denial or a
 /// refusal.
 fn is_shown(case: &Case<'_>, k: u32, v: &NodeVerdict) -> bool
-    requires told { IsTold case.now }
+    requires told { CaseHolds case.now }
     requires valid { IsValid case.now.net.now }
-    ensures { IsTrue result ↔ IsShown case.now.net.now (ends_of case.now) k case.now.whole v.now }
+    ensures { IsTrue result ↔ IsShown case.now.net.now (ends_in case.now) k case.now.whole v.now }
 {
     match v {
         NodeVerdict::Same => is_right_same(case),

@@ -4,7 +4,7 @@ ghost use Rattle.arc_nodecut.specs.Judged.{IsJoin};
 ghost use Rattle.arc_nodecut.specs.NodeWitnesses.{IsServed, IsRightSame, IsRightDirect};
 ghost use Rattle.net_model.specs.Forwarding.{source_router, target_router};
 ghost use Rattle.std.specs.Prelude.{◌↔◌, IsTrue, IfSome, IfNone};
-ghost use Rattle.witness_check.specs.Cases.{IsTold, ends_of};
+ghost use Rattle.witness_check.specs.Cases.{CaseHolds, ends_in};
 
 use crate::hops::Hop;
 use arc_base::Link;
@@ -12,8 +12,8 @@ use witness_check::Case;
 
 /// Whether the policy is clear, and all its packets enter and leave.
 pub(crate) fn is_served(case: &Case<'_>) -> bool
-    requires { IsTold case.now }
-    ensures { IsTrue result ↔ IsServed case.now.net.now (ends_of case.now) case.now.whole }
+    requires { CaseHolds case.now }
+    ensures { IsTrue result ↔ IsServed case.now.net.now (ends_in case.now) case.now.whole }
 {
     if !case.each_passes(case.whole) {
         return false;
@@ -23,7 +23,7 @@ pub(crate) fn is_served(case: &Case<'_>) -> bool
 
 /// The routed arc over a link in one direction, if there is one.
 pub(crate) fn hop(case: &Case<'_>, link: Link, from_a: bool) -> Option<Hop>
-    requires { IsTold case.now }
+    requires { CaseHolds case.now }
     ensures some { IfSome result (λ h.
         IsHop case.now.net.now case.now.to link.0 from_a h.tail.0 h.head.0) }
     ensures none { IfNone result (IsNoHop case.now.net.now case.now.to link.0 from_a) }
@@ -40,10 +40,10 @@ pub(crate) fn hop(case: &Case<'_>, link: Link, from_a: bool) -> Option<Hop>
 /// Whether the link's arc in this direction is routed, and leads from the source router to the
 /// target router.
 fn joins_over(case: &Case<'_>, link: Link, from_a: bool) -> bool
-    requires { IsTold case.now }
+    requires { CaseHolds case.now }
     ensures { IsTrue result ↔
-        IsHop case.now.net.now case.now.to link.0 from_a (source_router (ends_of case.now))
-        (target_router (ends_of case.now)) }
+        IsHop case.now.net.now case.now.to link.0 from_a (source_router (ends_in case.now))
+        (target_router (ends_in case.now)) }
 {
     match hop(case, link, from_a) {
         Some(hop) => { hop.tail.0 == case.source.router.0 && hop.head.0 == case.target.router.0 }
@@ -53,17 +53,17 @@ fn joins_over(case: &Case<'_>, link: Link, from_a: bool) -> bool
 
 /// Whether the link joins the two ends.
 fn joins(case: &Case<'_>, link: Link) -> bool
-    requires { IsTold case.now }
-    ensures { IsTrue result ↔ IsJoin case.now.net.now case.now.to (source_router (ends_of case.now))
-        (target_router (ends_of case.now)) link.0 }
+    requires { CaseHolds case.now }
+    ensures { IsTrue result ↔ IsJoin case.now.net.now case.now.to (source_router (ends_in case.now))
+        (target_router (ends_in case.now)) link.0 }
 {
     joins_over(case, link, true) || joins_over(case, link, false)
 }
 
 /// Whether it is right that both ends are at one router.
 pub(crate) fn is_right_same(case: &Case<'_>) -> bool
-    requires { IsTold case.now }
-    ensures { IsTrue result ↔ IsRightSame case.now.net.now (ends_of case.now) case.now.whole }
+    requires { CaseHolds case.now }
+    ensures { IsTrue result ↔ IsRightSame case.now.net.now (ends_in case.now) case.now.whole }
 {
     if !case.is_local() {
         return false;
@@ -73,9 +73,9 @@ pub(crate) fn is_right_same(case: &Case<'_>) -> bool
 
 /// Whether it is right that the link joins the ends.
 pub(crate) fn is_right_direct(case: &Case<'_>, link: Link) -> bool
-    requires { IsTold case.now }
+    requires { CaseHolds case.now }
     ensures { IsTrue result ↔
-        IsRightDirect case.now.net.now (ends_of case.now) case.now.whole link }
+        IsRightDirect case.now.net.now (ends_in case.now) case.now.whole link }
 {
     if case.is_local() {
         return false;

@@ -3,7 +3,7 @@ ghost use Rattle.arc_nodecut.specs.CutParts.{KeepsOver, KeepsBoth, IsInner, IsOf
 ghost use Rattle.arc_nodecut.specs.NodeWitnesses.{PartsAt, IsRightRouterCut};
 ghost use Rattle.std.specs.List.Sorted.{IsStrictlyIncreasing};
 ghost use Rattle.std.specs.Prelude.{◌↔◌, ◌<◌, ◌-◌, ℕ, IsTrue, All, Contains, map};
-ghost use Rattle.witness_check.specs.Cases.{IsTold, ends_of};
+ghost use Rattle.witness_check.specs.Cases.{CaseHolds, ends_in};
 
 use crate::cases::hop;
 use arc_base::{Link, List, Router};
@@ -42,7 +42,7 @@ fn are_off(routers: &[Router], side: &List<bool>) -> bool
 
 /// Whether the router is one of the network, and neither end.
 fn is_inner(case: &Case<'_>, router: Router) -> bool
-    ensures { IsTrue result ↔ IsInner case.now.net.now (ends_of case.now) router }
+    ensures { IsTrue result ↔ IsInner case.now.net.now (ends_in case.now) router }
 {
     if router.0 >= case.net.routers.len() {
         return false;
@@ -52,7 +52,7 @@ fn is_inner(case: &Case<'_>, router: Router) -> bool
 
 /// Whether each of the routers is one of the network, and neither end.
 fn are_inner(case: &Case<'_>, routers: &[Router]) -> bool
-    ensures { IsTrue result ↔ All (IsInner case.now.net.now (ends_of case.now)) routers.now }
+    ensures { IsTrue result ↔ All (IsInner case.now.net.now (ends_in case.now)) routers.now }
 {
     for router in routers {
         if !is_inner(case, *router) {
@@ -71,7 +71,7 @@ fn keeps_over(
     link: Link,
     from_a: bool,
 ) -> bool
-    requires { IsTold case.now }
+    requires { CaseHolds case.now }
     ensures { IsTrue result ↔
         KeepsOver case.now.net.now case.now.to routers.now side.now link.0 from_a }
 {
@@ -89,7 +89,7 @@ fn keeps_over(
 
 /// Whether both arcs of a link keep to the side or the cut.
 fn keeps_both(case: &Case<'_>, routers: &[Router], side: &List<bool>, link: Link) -> bool
-    requires { IsTold case.now }
+    requires { CaseHolds case.now }
     ensures { IsTrue result ↔ KeepsBoth case.now.net.now case.now.to routers.now side.now link.0 }
 {
     if !keeps_over(case, routers, side, link, true) {
@@ -100,7 +100,7 @@ fn keeps_both(case: &Case<'_>, routers: &[Router], side: &List<bool>, link: Link
 
 /// Whether all arcs keep to the side or the cut.
 fn keeps_all(case: &Case<'_>, routers: &[Router], side: &List<bool>) -> bool
-    requires { IsTold case.now }
+    requires { CaseHolds case.now }
     ensures { IsTrue result ↔
         ((link : ℕ) → KeepsBoth case.now.net.now case.now.to routers.now side.now link) }
 {
@@ -114,8 +114,8 @@ fn keeps_all(case: &Case<'_>, routers: &[Router], side: &List<bool>) -> bool
 
 /// Whether the routers separate the ends, with the source on this side of them.
 fn parts_at(case: &Case<'_>, routers: &List<Router>, side: &List<bool>) -> bool
-    requires { IsTold case.now }
-    ensures { IsTrue result ↔ PartsAt case.now.net.now (ends_of case.now) routers.now side.now }
+    requires { CaseHolds case.now }
+    ensures { IsTrue result ↔ PartsAt case.now.net.now (ends_in case.now) routers.now side.now }
 {
     if side.len() != case.net.routers.len() {
         return false;
@@ -139,9 +139,9 @@ pub(crate) fn is_right_cut(
     routers: &List<Router>,
     side: &List<bool>,
 ) -> bool
-    requires { IsTold case.now }
+    requires { CaseHolds case.now }
     ensures { IsTrue result ↔
-        IsRightRouterCut case.now.net.now (ends_of case.now) k case.now.whole routers.now side.now }
+        IsRightRouterCut case.now.net.now (ends_in case.now) k case.now.whole routers.now side.now }
 {
     if case.is_local() {
         return false;

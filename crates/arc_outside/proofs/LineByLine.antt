@@ -7,7 +7,7 @@ use Rattle.std.proofs.lemmas.List.Elements.{All-append}
 use Rattle.arc_outside.specs.Files.{Files}
 use Rattle.arc_outside.specs.Lines.{IsUnbroken, TakesFront}
 use Rattle.arc_outside.specs.LinesRead.{left, ReadsLine}
-use Rattle.arc_outside.specs.Reads.{IsNext, Reads}
+use Rattle.arc_outside.specs.Reads.{AreNextBytes, Reads}
 use Rattle.arc_outside.specs.declared.pieces.Pieces.{Pieces}
 
 -- of what was left before, the line has the first bytes, and the window and the rest of the file the others
@@ -22,7 +22,7 @@ pub still_unbroken : (line window longer rest : List ℕ) → IsUnbroken line �
 still_unbroken line window longer rest unbroken takes = subst IsUnbroken (sym takes.1.0) (All-append (λ b. b ≢ 10) line window unbroken takes.0)
 
 -- the next bytes of the file are in the window
-refilled : (bytes window : List ℕ) (place n : ℕ) → IsNext bytes place n window → n ≡ length window → drop place bytes ≡ window ++ drop (place + n) bytes
+refilled : (bytes window : List ℕ) (place n : ℕ) → AreNextBytes bytes place n window → n ≡ length window → drop place bytes ≡ window ++ drop (place + n) bytes
 refilled bytes window place n h count =
     sym (take-append-drop n (drop place bytes))
     ∙ ap₂ (λ (a b : List ℕ). a ++ b) (sym h.next ∙ take_all n window (omega (arith, count))) (drop-drop n place bytes)

@@ -17,7 +17,7 @@ use Rattle.policy_report.specs.Rereading.{answers}
 use Rattle.arc_recheck.specs.declared.held.HeldBlocks.{HeldBlocks}
 use Rattle.arc_recheck.specs.declared.held.Told.{Told}
 use Rattle.arc_recheck.specs.declared.held.Told.TheVariants.{Block, Other, Refused}
-use Rattle.arc_recheck.specs.Held.{verdicts_before, held_verdicts, is_head, told_by, IsTaken}
+use Rattle.arc_recheck.specs.Held.{verdicts_before, held_verdicts, is_report_head, told_by, IsTaken}
 use Rattle.arc_recheck.specs.HeldLines.{HasComeTo, held_with}
 
 -- what a line adds to the blocks that come after it
@@ -36,7 +36,7 @@ by_told (Ok (Step s)) rest = refl
 by_told (Err fault) rest = refl
 
 -- what is held, by whether the first answer is the head of a report
-no_head : (told : Result Got CertFault) (rest : List (Result Got CertFault)) → is_head told ≡ false → held_verdicts (told ∷ rest) ≡ []
+no_head : (told : Result Got CertFault) (rest : List (Result Got CertFault)) → is_report_head told ≡ false → held_verdicts (told ∷ rest) ≡ []
 no_head (Ok (Head Report)) rest e = absurd (false≢true (sym e))
 no_head (Ok (Head (Repaired price bound))) rest e = refl
 no_head (Ok (Head (NoRepair bound))) rest e = refl
@@ -47,7 +47,7 @@ no_head (Ok (Edit place)) rest e = refl
 no_head (Ok (Step s)) rest e = refl
 no_head (Err fault) rest e = refl
 
-a_head : (told : Result Got CertFault) (rest : List (Result Got CertFault)) → is_head told ≡ true → held_verdicts (told ∷ rest) ≡ verdicts_before rest
+a_head : (told : Result Got CertFault) (rest : List (Result Got CertFault)) → is_report_head told ≡ true → held_verdicts (told ∷ rest) ≡ verdicts_before rest
 a_head (Ok (Head Report)) rest e = refl
 a_head (Ok (Head (Repaired price bound))) rest e = absurd (false≢true e)
 a_head (Ok (Head (NoRepair bound))) rest e = absurd (false≢true e)
@@ -85,7 +85,7 @@ module _ (net : Network) (doc : Document) (text : List ℕ) (blocks : HeldBlocks
   }
 
   -- the first line
-  module _ (before : blocks.begun ≡ false) (is : Bool) (by : is ≡ is_head answer) where
+  module _ (before : blocks.begun ≡ false) (is : Bool) (by : is ≡ is_report_head answer) where
     pub no_report : is ≡ false → blocks.held ≡ whole
     no_report no' = come.none_before before ∙ (sym (no_head answer behind (sym by ∙ no')) ∙ at_begun false before)
 

@@ -14,11 +14,11 @@ use Rattle.class_graph.specs.Passing.{EachPasses}
 use Rattle.witness_check.specs.Cases as cases
 
 -- what a case tells of its packets
-pub passes_told : (case_net net : Network) (ends : Ends) (class whole : Class) → case_net ≡ net → class ≡ whole → (b : Bool) → (IsTrue b ↔ cases.EachPasses case_net ends class) →
+pub passes_told : (case_net net : Network) (ends : Ends) (class whole : Class) → case_net ≡ net → class ≡ whole → (b : Bool) → (IsTrue b ↔ cases.EachEntersAndLeaves case_net ends class) →
     IsTrue b ↔ EachPasses net ends whole
 passes_told case_net net ends class whole net_is whole_is b tells =
-    let here : IsTrue b ↔ cases.EachPasses net ends whole =
-    subst (λ (w : Class). IsTrue b ↔ cases.EachPasses net ends w) whole_is (subst (λ (n : Network). IsTrue b ↔ cases.EachPasses n ends class) net_is tells) in (
+    let here : IsTrue b ↔ cases.EachEntersAndLeaves net ends whole =
+    subst (λ (w : Class). IsTrue b ↔ cases.EachEntersAndLeaves net ends w) whole_is (subst (λ (n : Network). IsTrue b ↔ cases.EachEntersAndLeaves n ends class) net_is tells) in (
       λ t. λ p of. ((here.0 t).0 p of, (here.0 t).1 p of),
       λ all. here.1 (λ p of. (all p of).0, λ p of. (all p of).1),
     )

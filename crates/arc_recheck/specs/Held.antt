@@ -23,9 +23,9 @@ held_verdicts (Ok (Head Report) ∷ rest) = verdicts_before rest
 held_verdicts _ = []
 
 -- whether the answer is the head of a report
-abbrev pub is_head : Result Got CertFault → Bool
-is_head (Ok (Head Report)) = true
-is_head _ = false
+abbrev pub is_report_head : Result Got CertFault → Bool
+is_report_head (Ok (Head Report)) = true
+is_report_head _ = false
 
 -- what an answer of the reader says of the blocks
 abbrev pub told_by : Result Got CertFault → Told

@@ -1,6 +1,6 @@
 //! The blocks that an old report holds.
 ghost use Rattle.arc_base.specs.TextLines.{lines};
-ghost use Rattle.arc_recheck.specs.Held.{held_verdicts, is_head, told_by, IsTaken};
+ghost use Rattle.arc_recheck.specs.Held.{held_verdicts, is_report_head, told_by, IsTaken};
 ghost use Rattle.policy_report.specs.Rereading.{answers};
 ghost use Rattle.policy_report.specs.Steps.{standing, start, step};
 ghost use Rattle.std.specs.ControlFlow.{MatchControlFlow};
@@ -112,7 +112,7 @@ fn takes_head(
     line: &[u8],
 ) -> Result<bool, Memory>
     ensures head { IfOk result (λ head.
-        head ≡ is_head (step net.now doc.now [] (standing reader.old) line.now).1) }
+        head ≡ is_report_head (step net.now doc.now [] (standing reader.old) line.now).1) }
     ensures reader { IfOk result (λ head. IsTrue head →
         standing reader.new ≡ (step net.now doc.now [] (standing reader.old) line.now).0) }
 {

@@ -10,7 +10,7 @@ use Rattle.net_model.specs.declared.lists.PacketList.{PacketList}
 use Rattle.net_model.specs.declared.policies.Class.{Class}
 use Rattle.net_model.specs.declared.rows.Network.{Network}
 use Rattle.net_model.specs.Lists.{permits}
-use Rattle.net_model.specs.Packets.{IsOf, first_packet}
+use Rattle.net_model.specs.Packets.{IsOfClass, first_packet}
 use Rattle.net_model.specs.Routing.{Arc}
 use Rattle.net_model.specs.Forwarding.{ListPermits, ArcPermits, ArcPermitsEach}
 use Rattle.net_model.specs.Witnesses.{IsUniform, IsUniformFor}
@@ -21,7 +21,7 @@ use Rattle.class_graph.specs.Graphs.{MayUse}
 use Rattle.net_model.proofs.Packets.{first_is_of}
 use Rattle.net_model.proofs.Readings.{item_at_place}
 
-list_alike : (net : Network) (class : Class) → IsUniformFor net class → (p q : Packet) → IsOf class p → IsOf class q →
+list_alike : (net : Network) (class : Class) → IsUniformFor net class → (p q : Packet) → IsOfClass class p → IsOfClass class q →
     (place : ℕ) (o : Option PacketList) → slice_get net.packet_lists place ≡ o →
     IsSomeAnd o (λ l. IsTrue (permits l.entries p)) → IsSomeAnd o (λ l. IsTrue (permits l.entries q))
 list_alike net class uniform p q of_p of_q place None at h = h
@@ -31,13 +31,13 @@ list_alike net class uniform p q of_p of_q place (Some l) at h =
     subst IsTrue (alike p q of_p of_q) h
 
 -- a list that permits one packet of the class permits each
-pub lists_alike : (net : Network) (class : Class) → IsUniformFor net class → (p q : Packet) → IsOf class p → IsOf class q →
+pub lists_alike : (net : Network) (class : Class) → IsUniformFor net class → (p q : Packet) → IsOfClass class p → IsOfClass class q →
     (list : Option ListId) → ListPermits net list p → ListPermits net list q
 lists_alike net class uniform p q of_p of_q None h = h
 lists_alike net class uniform p q of_p of_q (Some id) h =
     list_alike net class uniform p q of_p of_q id.0 (slice_get net.packet_lists id.0) refl h
 
-pub arc_alike : (net : Network) (class : Class) → IsUniformFor net class → (p q : Packet) → IsOf class p → IsOf class q →
+pub arc_alike : (net : Network) (class : Class) → IsUniformFor net class → (p q : Packet) → IsOfClass class p → IsOfClass class q →
     (arc : Arc) → ArcPermits net arc p → ArcPermits net arc q
 arc_alike net class uniform p q of_p of_q arc h = (
   lists_alike net class uniform p q of_p of_q arc.tail.list_out (h.0),
@@ -72,7 +72,7 @@ arc_allows_is net class uniform arc = (
 )
 
 pub open_is : (net : Network) (class : Class) → IsUniformFor net class → (up : Bool) (list : Option ListId) →
-    (IsTrue up × Allows (answers_to net (first_packet class)) list) ↔ ((p : Packet) → IsOf class p → IsTrue up × ListPermits net list p)
+    (IsTrue up × Allows (answers_to net (first_packet class)) list) ↔ ((p : Packet) → IsOfClass class p → IsTrue up × ListPermits net list p)
 open_is net class uniform up list = (
   λ h. λ p of_p. (h.0, lists_alike net class uniform (first_packet class) p (first_is_of class) of_p list ((allows_is net (first_packet class) list).0 (h.1))),
   λ h. let here = h (first_packet class) (first_is_of class) in (here.0, (allows_is net (first_packet class) list).1 (here.1)),

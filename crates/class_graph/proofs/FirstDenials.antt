@@ -10,7 +10,7 @@ use Rattle.arc_base.specs.declared.prefix.Prefix.{Prefix}
 use Rattle.net_model.specs.declared.lists.Packet.{Packet}
 use Rattle.net_model.specs.declared.policies.Class.{Class}
 use Rattle.net_model.specs.declared.rows.Network.{Network}
-use Rattle.net_model.specs.Packets.{IsOf, LiesIn, first_packet}
+use Rattle.net_model.specs.Packets.{IsOfClass, LiesIn, first_packet}
 use Rattle.net_model.specs.Forwarding.{Ends, source_router, target_router}
 use Rattle.net_model.specs.Witnesses.{IsRightRefused}
 use Rattle.net_model.proofs.Packets.{first_is_of}
@@ -84,7 +84,7 @@ pub right_refusal : (net : Network) (ends : Ends) (whole : Class) (classes : Lis
 right_refusal net ends whole classes parts apart d denial p packet =
     let one : Contains classes d.class = item_at_place classes denial.is_first.place d.class denial.is_first.at_place in
     let part : LiesIn d.class whole = All-contains (λ (c : Class). LiesIn c whole) classes d.class parts one in
-    let of_class : IsOf d.class p = subst (IsOf d.class) (sym packet) (first_is_of d.class) in
+    let of_class : IsOfClass d.class p = subst (IsOfClass d.class) (sym packet) (first_is_of d.class) in
     record {
       apart = apart;
       packet = (part.0 p.from of_class.0, part.1 p.to of_class.1, part.2 p.service of_class.2);

@@ -3,7 +3,7 @@ use Rattle.std.proofs.Common.{◌≡◌, ◌↔◌, Bool, IsTrue, subst}
 use Rattle.net_model.specs.declared.lists.Packet.{Packet}
 use Rattle.net_model.specs.declared.policies.Class.{Class}
 use Rattle.net_model.specs.declared.rows.Network.{Network}
-use Rattle.net_model.specs.Packets.{IsOf, first_packet}
+use Rattle.net_model.specs.Packets.{IsOfClass, first_packet}
 use Rattle.net_model.specs.Forwarding.{Ends, Enters, Leaves}
 use Rattle.net_model.specs.Witnesses.{IsUniformFor}
 use Rattle.class_graph.specs.declared.hosts.End.{End}
@@ -14,7 +14,7 @@ use Rattle.class_graph.proofs.Alike.{lists_alike}
 
 pub through_is : (net : Network) (class : Class) → IsUniformFor net class → (pair : HostPair) (flag : Bool) (packet : Packet) → packet ≡ first_packet class →
     IsTrue flag ↔ (Admits net pair.source packet × Admits net pair.target packet) → (ends : Ends) → IsHostPair net ends pair →
-    IsTrue flag ↔ ((p : Packet) → IsOf class p → Enters net ends p × Leaves net ends p)
+    IsTrue flag ↔ ((p : Packet) → IsOfClass class p → Enters net ends p × Leaves net ends p)
 through_is net class uniform pair flag packet packet_is is ends pair_is =
     let first_is : IsTrue flag ↔ (Admits net pair.source (first_packet class) × Admits net pair.target (first_packet class)) =
     subst (λ (p : Packet). IsTrue flag ↔ (Admits net pair.source p × Admits net pair.target p)) packet_is is in

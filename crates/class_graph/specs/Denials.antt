@@ -4,7 +4,7 @@ use Rattle.arc_base.specs.declared.prefix.Prefix.{Prefix}
 use Rattle.net_model.specs.declared.lists.Packet.{Packet}
 use Rattle.net_model.specs.declared.policies.Class.{Class}
 use Rattle.net_model.specs.declared.rows.Network.{Network}
-use Rattle.net_model.specs.Packets.{IsOf}
+use Rattle.net_model.specs.Packets.{IsOfClass}
 use Rattle.net_model.specs.Routing.{Arc, IsArc, IsRouted}
 use Rattle.net_model.specs.Forwarding.{ArcPermits}
 use Rattle.class_graph.specs.Answers.{ArcAllows}
@@ -15,7 +15,7 @@ pub record IsDeniedOn (net : Network) (to : Prefix) (class : Class) (link : ℕ)
   pub is_arc : IsArc net arc
   pub routed : IsRouted net to arc
   pub of_link : arc.link ≡ link
-  pub denied : (p : Packet) → IsOf class p → ¬ ArcPermits net arc p
+  pub denied : (p : Packet) → IsOfClass class p → ¬ ArcPermits net arc p
 
 -- no link does
 abbrev pub IsDeniedNowhere : Network → Prefix → Class → Type 0

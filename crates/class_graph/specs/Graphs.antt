@@ -6,7 +6,7 @@ use Rattle.graph_flow.specs.Paths.{Digraph}
 use Rattle.net_model.specs.declared.lists.Packet.{Packet}
 use Rattle.net_model.specs.declared.policies.Class.{Class}
 use Rattle.net_model.specs.declared.rows.Network.{Network}
-use Rattle.net_model.specs.Packets.{IsOf}
+use Rattle.net_model.specs.Packets.{IsOfClass}
 use Rattle.net_model.specs.Routing.{Arc, IsArc, IsRouted, tail_router, head_router, cost}
 use Rattle.net_model.specs.Forwarding.{Ends, AreEnds, Enters, Leaves, source_router, target_router}
 use Rattle.net_model.specs.Forwarding.{ArcPermitsEach}
@@ -58,8 +58,8 @@ pub record IsClassGraph (net : Network) (ends : Ends) (class : Class) (mode : Mo
     (graph : ClassGraph) : Type 0 where
   pub source : graph.source.0 ≡ source_router ends
   pub target : graph.target.0 ≡ target_router ends
-  pub enters : IsTrue graph.enters ↔ ((p : Packet) → IsOf class p → Enters net ends p)
-  pub leaves : IsTrue graph.leaves ↔ ((p : Packet) → IsOf class p → Leaves net ends p)
+  pub enters : IsTrue graph.enters ↔ ((p : Packet) → IsOfClass class p → Enters net ends p)
+  pub leaves : IsTrue graph.leaves ↔ ((p : Packet) → IsOfClass class p → Leaves net ends p)
   pub arcs : IsGraphOf net ends.to (Fits mode net class) graph.graph
 
 -- the same, for the ends of the class

@@ -3,7 +3,7 @@ use Rattle.std.specs.Prelude.{◌≡◌, ℕ, ◌<◌, Some, List, slice_get}
 use Rattle.net_model.specs.declared.lists.Packet.{Packet}
 use Rattle.net_model.specs.declared.policies.Class.{Class}
 use Rattle.net_model.specs.declared.rows.Network.{Network}
-use Rattle.net_model.specs.Packets.{IsOf}
+use Rattle.net_model.specs.Packets.{IsOfClass}
 use Rattle.net_model.specs.Forwarding.{Ends, Enters, Leaves}
 
 -- the class is one of the list, and this holds of each class before it
@@ -15,7 +15,7 @@ pub record IsFirstAfter (Before : Class → Type 0) (classes : List Class)
 
 -- each packet of the class enters and leaves
 abbrev pub EachPasses : Network → Ends → Class → Type 0
-EachPasses net ends class = (p : Packet) → IsOf class p → Enters net ends p × Leaves net ends p
+EachPasses net ends class = (p : Packet) → IsOfClass class p → Enters net ends p × Leaves net ends p
 
 -- each packet of the first n classes enters and leaves
 abbrev pub AllPass : Network → Ends → List Class → ℕ → Type 0

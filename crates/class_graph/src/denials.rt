@@ -5,7 +5,8 @@ ghost use Rattle.class_graph.specs.Hosts.{HasHostPair};
 ghost use Rattle.class_graph.specs.Listed.{AreListed};
 ghost use Rattle.net_model.specs.Tables.{AreRoutedLinks};
 ghost use Rattle.net_model.specs.Witnesses.{IsUniformFor};
-ghost use Rattle.std.specs.Prelude.{◌≡◌, ◌↔◌, ℕ, IsTrue, IsFalse, IfOk, IfSome, IfNone, MatchOption};
+ghost use Rattle.std.specs.Prelude.{◌≡◌, ◌↔◌, ℕ, IsTrue, IsFalse, IfOk, IfSome, IfNone};
+ghost use Rattle.std.specs.Prelude.{MatchOption};
 ghost use Rattle.std.specs.Prelude.{Some, false, slice_get};
 
 use crate::answers::{arc_allows, list_answers};

@@ -4,7 +4,7 @@ ghost use Rattle.class_graph.specs.Hosts.{IsOpenTo, Admits, IsHostPair, IsHostPa
 ghost use Rattle.class_graph.specs.LastGraphs.{IsGraphOfTable};
 ghost use Rattle.class_graph.specs.Passing.{AllPass, IsFirstKeptOut};
 ghost use Rattle.net_model.specs.Forwarding.{Ends, HasEnds, Enters, Leaves};
-ghost use Rattle.net_model.specs.Packets.{IsOf};
+ghost use Rattle.net_model.specs.Packets.{IsOfClass};
 ghost use Rattle.net_model.specs.Witnesses.{IsUniformFor};
 ghost use Rattle.net_model.specs.declared.lists.Packet.{Packet as AnyPacket};
 ghost use Rattle.std.specs.Prelude.{◌↔◌, IsTrue, length, IfOk, IfSome, IfNone};
@@ -59,7 +59,7 @@ impl HostPair {
     pub fn lets_through(&self, net: &Network, class: Class) -> bool
         requires { IsUniformFor net.now class }
         ensures { (ends : Ends) → IsHostPair net.now ends self.now → IsTrue result ↔
-            ((p : AnyPacket) → IsOf class p → Enters net.now ends p × Leaves net.now ends p) }
+            ((p : AnyPacket) → IsOfClass class p → Enters net.now ends p × Leaves net.now ends p) }
     {
         self.admits(net, class.first_packet())
     }

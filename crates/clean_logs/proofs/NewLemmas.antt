@@ -9,7 +9,7 @@ use Rattle.cnf_types.specs.Literals.{negated, variable}
 use Rattle.proof_check.specs.Propagation.{same, is_among}
 use Rattle.sat_core.specs.Trails.{IsUnset}
 use Rattle.sat_core.specs.Rest.{HasTwoUnset, RestsOn}
-use Rattle.clean_logs.specs.Lemmas.{HasDifferentVariables, FindsMore, resolvent, Clash, Makes, IsMadeBy, IsNew}
+use Rattle.clean_logs.specs.Lemmas.{HasDifferentVariables, FindsMore, resolvent, ClashesAt, Makes, IsMadeBy, IsNew}
 use Rattle.clean_logs.specs.Lemmas.Makes.{last, resolved}
 use Rattle.clean_logs.specs.Laws.{IsWithin}
 use Rattle.clean_logs.proofs.Codes.{contains_among, among_contains, same_literal, same-itself}

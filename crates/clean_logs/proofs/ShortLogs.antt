@@ -21,7 +21,7 @@ use Rattle.proof_log.specs.declared.steps.Step.TheVariants.{Add, Drop, Bound}
 use Rattle.proof_check.specs.declared.faults.StepFault.{StepFault}
 use Rattle.proof_check.specs.declared.faults.StepFault.TheVariants.{IdNotRising, BoundTooLow, BoundTooHigh}
 use Rattle.proof_check.specs.Propagation.{chain_fault, is_among}
-use Rattle.proof_check.specs.Knowledge.{Knowledge, start, step_fault, after, is_empty, formula_clause, with_clause, bound_fault, is_too_low}
+use Rattle.proof_check.specs.Knowledge.{Knowledge, start, step_fault, after, is_empty_clause, formula_clause, with_clause, bound_fault, is_too_low}
 use Rattle.clean_logs.specs.Lemmas.{HasDifferentVariables, IsNew}
 use Rattle.clean_logs.specs.CleanLogs.{IsCleanAfter, IsSpent, additions}
 use Rattle.clean_logs.specs.Laws.{IsWithin, HasItsVariables}
@@ -123,11 +123,11 @@ module _ (vars : ℕ) where
   which clause id lits other j true e h = inl (eqb-true id j e, same_Some lits other h)
   which clause id lits other j false e h = inr h
 
-  filled : (lits : List Lit) → IsFalse (is_empty lits) → (l : Lit) × Contains lits l
+  filled : (lits : List Lit) → IsFalse (is_empty_clause lits) → (l : Lit) × Contains lits l
   filled [] e = absurd (false≢true (sym e))
   filled (l ∷ lits) e = (l, Contains-head l lits)
 
-  added : (k : Knowledge) (learned : List (List Lit)) → Before k learned → (id : ℕ) (lits : List Lit) (hints : List ℤ) → k.last < id → IsFalse (is_empty lits) →
+  added : (k : Knowledge) (learned : List (List Lit)) → Before k learned → (id : ℕ) (lits : List Lit) (hints : List ℤ) → k.last < id → IsFalse (is_empty_clause lits) →
       IsNew k.clause lits hints → Before (after k (Add id lits hints)) (lits ∷ learned)
   added k learned b id lits hints rises some new =
       let its : IsWithin vars lits = new_within k.clause vars b.within lits hints new in

@@ -5,7 +5,7 @@ use Rattle.cnf_types.specs.declared.literal.Lit.{Lit}
 use Rattle.cnf_types.specs.declared.clauses.Formula.{Formula}
 use Rattle.proof_log.specs.declared.steps.Step.{Step}
 use Rattle.proof_log.specs.declared.steps.Step.TheVariants.{Add, Drop, Bound}
-use Rattle.proof_check.specs.Knowledge.{Knowledge, start, step_fault, after, is_empty}
+use Rattle.proof_check.specs.Knowledge.{Knowledge, start, step_fault, after, is_empty_clause}
 use Rattle.clean_logs.specs.Lemmas.{IsNew}
 use Rattle.clean_logs.specs.declared.kept.TheConstants.{KEPT_LEMMAS}
 
@@ -34,7 +34,8 @@ dropped_by drops (s ∷ steps) = dropped_by (drops_after drops s) steps
 -- An added clause is new and not empty. Only added clauses are dropped, and the j-th step that
 -- drops names none of the KEPT_LEMMAS times j that were added last.
 abbrev pub IsCleanStep : Knowledge → List ℕ → ℕ → Step → Type 0
-IsCleanStep k added drops (Add id lits hints) = IsFalse (is_empty lits) × IsNew k.clause lits hints
+IsCleanStep k added drops (Add id lits hints) = IsFalse (is_empty_clause lits) ×
+    IsNew k.clause lits hints
 IsCleanStep k added drops (Drop ids) =
     All (λ id. Contains (drop (KEPT_LEMMAS * (drops + 1)) added) id) ids
 IsCleanStep k added drops (Bound id price) = Unit {0}

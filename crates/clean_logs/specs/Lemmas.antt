@@ -29,7 +29,7 @@ resolvent so_far p lits l =
     (so_far l && not (same p l)) || (is_among lits l && not (same (negated p) l))
 
 -- they clash in the variable of p alone
-pub record Clash (so_far : Lit → Bool) (p : Lit) (lits : List Lit) : Type 0 where
+pub record ClashesAt (so_far : Lit → Bool) (p : Lit) (lits : List Lit) : Type 0 where
   pub one : IsTrue (so_far p)
   pub other : Contains lits (negated p)
   pub alone : (l : Lit) → IsTrue (so_far l) → Contains lits (negated l) → variable l ≡ variable p
@@ -40,7 +40,7 @@ pub data Makes (clause : ℕ → Option (List Lit)) : List ℤ → (Lit → Bool
   last : {id : ℕ} {lits : List Lit} → clause id ≡ Some lits →
       Makes clause (pos id ∷ []) (is_among lits)
   resolved : {id : ℕ} {lits : List Lit} {hints : List ℤ} {so_far : Lit → Bool} {p : Lit} →
-      Makes clause hints so_far → clause id ≡ Some lits → Clash so_far p lits
+      Makes clause hints so_far → clause id ≡ Some lits → ClashesAt so_far p lits
       → Makes clause (pos id ∷ hints) (resolvent so_far p lits)
 
 -- the hints make a clause of just these literals

@@ -13,7 +13,8 @@ use Rattle.cnf_types.specs.declared.header.Header.{Header}
 use Rattle.cnf_types.specs.Literals.{variable}
 use Rattle.arc_base.specs.WordNumbers.{is_natural, minus, natural, number, value_after}
 use Rattle.arc_base.specs.TextLines.{lines}
-use Rattle.cnf_types.specs.Dimacs.{after_header, closed, content, counted, ends_closed, first_bad, from_header, header, is_zero, judged, line_numbers, line_words, literal_of, numbers, pieces, reading}
+use Rattle.cnf_types.specs.Dimacs.{after_header, closed, content, counted, ends_closed, first_bad, from_header, header, is_zero, judged, line_numbers, cnf_line_words, literal_of, numbers, pieces}
+use Rattle.cnf_types.specs.Dimacs.{reading}
 use Rattle.clean_logs.specs.Laws.{IsWithin, HasItsVariables}
 
 -- ---- numbers
@@ -58,7 +59,7 @@ line_small vars (w ∷ ws) = cons_small vars (number vars w) (line_numbers vars 
 
 all_small : (vars : ℕ) (ls : List (ℕ × List ℕ)) → All (Small vars) (numbers vars ls)
 all_small vars [] = All-nil (Small vars)
-all_small vars (l ∷ ls) = All-append (Small vars) (line_numbers vars (line_words l.1)) (numbers vars ls) (line_small vars (line_words l.1)) (all_small vars ls)
+all_small vars (l ∷ ls) = All-append (Small vars) (line_numbers vars (cnf_line_words l.1)) (numbers vars ls) (line_small vars (cnf_line_words l.1)) (all_small vars ls)
 
 -- ---- literals
 
@@ -138,7 +139,7 @@ good_after last ls h = go _ (nat_lt 16777216 h.vars) refl
 
 good_from : (last : ℕ) (ls : List (ℕ × List ℕ)) → GoodIfOk (from_header last ls)
 good_from last [] = tt
-good_from last (l ∷ ls) = go _ (header (line_words l.1))
+good_from last (l ∷ ls) = go _ (header (cnf_line_words l.1))
   where
     go : (unread : CnfFault) (o : Option Header) → GoodIfOk (option_map_or (after_header last ls) o (Err unread))
     go unread None = tt

@@ -11,7 +11,7 @@ use Rattle.cnf_types.specs.declared.faults.CnfFault.{CnfFault}
 use Rattle.cnf_types.specs.declared.faults.CnfFault.TheVariants.{BadHeader, BadNumber, Count, TooLarge, Memory}
 use Rattle.cnf_types.specs.declared.header.Header.{Header}
 use Rattle.arc_base.specs.TextLines.{lines}
-use Rattle.cnf_types.specs.Dimacs.{closed, ends_closed, counted, sized, judged, after_header, from_header, reading, content, first_bad, numbers, pieces, IsFaultOf}
+use Rattle.cnf_types.specs.Dimacs.{closed, ends_closed, counted, sized, judged, after_header, from_header, reading, content, first_bad, numbers, pieces, IsFaultOfCnf}
 use Rattle.cnf_types.specs.Progress.{pieces_after, IsFirstBad}
 
 abbrev literals : Clause → List Lit
@@ -83,7 +83,7 @@ sized_small vars clauses count count_is small =
     sym (cond-true _ _ _ (ap (λ n. nat_le n 32000000) is ∙ le-leb count 32000000 small) ∙ ap (λ cs. Ok (record { vars = vars; clauses = cs })) (closed_all clauses []))
 
 -- a fault is that of the text
-pub fault_is : (text : List ℕ) (fault : CnfFault) → reading text ≡ Err fault → IsFaultOf text fault
+pub fault_is : (text : List ℕ) (fault : CnfFault) → reading text ≡ Err fault → IsFaultOfCnf text fault
 fault_is text (BadHeader n) e = e
 fault_is text (BadNumber n) e = e
 fault_is text (Count n) e = e
@@ -107,7 +107,7 @@ module _ (text : List ℕ) (h : Header) (n : ℕ) (rest : List (List ℕ))
   bad_is (Some l) m e = ap (λ k. Err (BadNumber k)) e
   bad_is None m e = absurd e
 
-  pub body_fault : (fault : CnfFault) → h.vars ≤ 16777216 → IsFirstBad fault (first_bad h.vars (content n rest)) → IsFaultOf text fault
+  pub body_fault : (fault : CnfFault) → h.vars ≤ 16777216 → IsFirstBad fault (first_bad h.vars (content n rest)) → IsFaultOfCnf text fault
   body_fault Memory small e = tt
   body_fault (BadNumber m) small e = judged_is small ∙ bad_is (first_bad h.vars (content n rest)) m e
   body_fault (BadHeader m) small e = absurd e

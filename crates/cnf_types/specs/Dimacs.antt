@@ -30,8 +30,8 @@ abbrev pub content : ℕ → List (List ℕ) → List (ℕ × List ℕ)
 content before ls = filter (λ l. not (is_comment l.1)) (enumerate_from (before + 1) ls)
 
 -- the words of a line of a file, which a carriage return may end
-abbrev pub line_words : List ℕ → List (List ℕ)
-line_words line = words (without_return line)
+abbrev pub cnf_line_words : List ℕ → List (List ℕ)
+cnf_line_words line = words (without_return line)
 
 -- a number of 1 to 18 digits
 abbrev pub count : List ℕ → Option ℕ
@@ -46,12 +46,12 @@ header (p ∷ cnf ∷ vars ∷ clauses ∷ []) =
 header _ = None
 
 -- the word is no whole number, or one above the number of variables
-abbrev pub is_bad : ℕ → List ℕ → Bool
-is_bad vars word = is_none (number vars word)
+abbrev pub is_bad_word : ℕ → List ℕ → Bool
+is_bad_word vars word = is_none (number vars word)
 
 -- the first line with such a word
 abbrev pub first_bad : ℕ → List (ℕ × List ℕ) → Option (ℕ × List ℕ)
-first_bad vars ls = find (λ l. list_any (is_bad vars) (line_words l.1)) ls
+first_bad vars ls = find (λ l. list_any (is_bad_word vars) (cnf_line_words l.1)) ls
 
 -- the numbers that the words of a line write
 abbrev pub line_numbers : ℕ → List (List ℕ) → List ℤ
@@ -59,7 +59,7 @@ line_numbers vars ws = filter_map (number vars) ws
 
 -- the numbers of all lines
 abbrev pub numbers : ℕ → List (ℕ × List ℕ) → List ℤ
-numbers vars ls = flat_map (λ l. line_numbers vars (line_words l.1)) ls
+numbers vars ls = flat_map (λ l. line_numbers vars (cnf_line_words l.1)) ls
 
 -- a positive number is its variable, a negative one the variable's negation
 abbrev pub literal_of : ℤ → Lit
@@ -114,16 +114,16 @@ after_header last ls h =
 abbrev pub from_header : ℕ → List (ℕ × List ℕ) → Result Formula CnfFault
 from_header last [] = Err (BadHeader last)
 from_header last (l ∷ ls) =
-    option_map_or (after_header last ls) (header (line_words l.1)) (Err (BadHeader l.0))
+    option_map_or (after_header last ls) (header (cnf_line_words l.1)) (Err (BadHeader l.0))
 
 -- what the whole text is read as
 unfoldable pub reading : List ℕ → Result Formula CnfFault
 reading text = from_header (length (lines text)) (content 0 (lines text))
 
 -- the fault is that of the text, or out of memory
-abbrev pub IsFaultOf : List ℕ → CnfFault → Type 0
-IsFaultOf text Memory = Unit {0}
-IsFaultOf text (BadHeader n) = reading text ≡ Err (BadHeader n)
-IsFaultOf text (BadNumber n) = reading text ≡ Err (BadNumber n)
-IsFaultOf text (Count n) = reading text ≡ Err (Count n)
-IsFaultOf text (TooLarge kind n) = reading text ≡ Err (TooLarge kind n)
+abbrev pub IsFaultOfCnf : List ℕ → CnfFault → Type 0
+IsFaultOfCnf text Memory = Unit {0}
+IsFaultOfCnf text (BadHeader n) = reading text ≡ Err (BadHeader n)
+IsFaultOfCnf text (BadNumber n) = reading text ≡ Err (BadNumber n)
+IsFaultOfCnf text (Count n) = reading text ≡ Err (Count n)
+IsFaultOfCnf text (TooLarge kind n) = reading text ≡ Err (TooLarge kind n)

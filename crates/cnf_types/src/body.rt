@@ -2,7 +2,8 @@
 ghost use Rattle.arc_base.specs.TextLines.{lines};
 ghost use Rattle.arc_base.specs.WordNumbers.{number};
 ghost use Rattle.arc_base.specs.Words.{words};
-ghost use Rattle.cnf_types.specs.Dimacs.{is_bad, line_numbers, first_bad, content, numbers, pieces};
+ghost use Rattle.cnf_types.specs.Dimacs.{is_bad_word, line_numbers, first_bad, content, numbers};
+ghost use Rattle.cnf_types.specs.Dimacs.{pieces};
 ghost use Rattle.cnf_types.specs.Progress.{pieces_after, IsFirstBad};
 ghost use Rattle.std.specs.List.{list_any};
 ghost use Rattle.std.specs.Prelude.{◌≡◌, ◌+◌, ◌-◌, ◌<◌, ◌≤◌, ◌^◌, ◌++◌, [], ◌∷◌, ℤ, List as Items};
@@ -67,12 +68,13 @@ impl<S: ClauseSink + Drop> Body<S> {
     fn take_word(&mut self, alloc: Global, word: &[u8]) -> Result<(), WordFault>
         requires limit { self.old.vars < 2 ^ 63 }
         requires room { length (S.taken self.old.sink) < 2 ^ 32 - 1 }
-        ensures number { OnOk result (IsFalse (is_bad self.old.vars word.now)) }
+        ensures number { OnOk result (IsFalse (is_bad_word self.old.vars word.now)) }
         ensures pieces { OnOk result ((more : Items ℤ) →
             pieces_after (S.taken self.new.sink) self.new.unclosed.items more
             ≡ pieces_after (S.taken self.old.sink) self.old.unclosed.items
             (line_numbers self.old.vars (word.now ∷ []) ++ more)) }
-        ensures bad { IsErrOf result WordFault.BadNumber → IsTrue (is_bad self.old.vars word.now) }
+        ensures bad { IsErrOf result WordFault.BadNumber →
+            IsTrue (is_bad_word self.old.vars word.now) }
         ensures clauses { length (S.taken self.new.sink) ≤ length (S.taken self.old.sink) + 1 }
         ensures vars { self.new.vars ≡ self.old.vars }
     {
@@ -87,13 +89,14 @@ impl<S: ClauseSink + Drop> Body<S> {
     fn take_words(&mut self, alloc: Global, line: &[u8]) -> Result<(), WordFault>
         requires limit { self.old.vars < 2 ^ 63 }
         requires room { length (S.taken self.old.sink) + length line.now < 2 ^ 32 }
-        ensures numbers { OnOk result (IsFalse (list_any (is_bad self.old.vars) (words line.now))) }
+        ensures numbers { OnOk result
+            (IsFalse (list_any (is_bad_word self.old.vars) (words line.now))) }
         ensures pieces { OnOk result ((more : Items ℤ) →
             pieces_after (S.taken self.new.sink) self.new.unclosed.items more
             ≡ pieces_after (S.taken self.old.sink) self.old.unclosed.items
             (line_numbers self.old.vars (words line.now) ++ more)) }
         ensures bad { IsErrOf result WordFault.BadNumber →
-            IsTrue (list_any (is_bad self.old.vars) (words line.now)) }
+            IsTrue (list_any (is_bad_word self.old.vars) (words line.now)) }
         ensures clauses { length (S.taken self.new.sink)
             ≤ length (S.taken self.old.sink) + length line.now }
         ensures vars { self.new.vars ≡ self.old.vars }

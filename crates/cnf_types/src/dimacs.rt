@@ -1,7 +1,7 @@
 //! Formulas from the text of a DIMACS file.
 ghost use Rattle.arc_base.specs.TextLines.{lines};
 ghost use Rattle.cnf_types.specs.Dimacs.{content, from_header, after_header, counted, reading};
-ghost use Rattle.cnf_types.specs.Dimacs.{IsFaultOf};
+ghost use Rattle.cnf_types.specs.Dimacs.{IsFaultOfCnf};
 ghost use Rattle.cnf_types.specs.Progress.{pieces_after};
 ghost use Rattle.std.specs.Prelude.{◌≡◌, ◌+◌, ◌<◌, ◌≤◌, ◌^◌, [], length, IfOk, IfErr, Err, Ok};
 ghost use Rattle.std.specs.Prelude.{IsTrue, ◌↔◌};
@@ -88,7 +88,7 @@ pub fn read_clauses<S: ClauseSink + Drop>(
     requires empty { S.taken sink ≡ [] }
     ensures formula { IfOk result (λ found. reading bytes.now
         ≡ Ok (record { vars = found.0; clauses = S.taken found.1 })) }
-    ensures fault { IfErr result (IsFaultOf bytes.now) }
+    ensures fault { IfErr result (IsFaultOfCnf bytes.now) }
 {
     let (header, line, rest) = read_header(bytes)?;
     if header.vars > VARIABLE_LIMIT {
@@ -103,7 +103,7 @@ pub fn read_clauses<S: ClauseSink + Drop>(
 pub fn formula(alloc: Global, bytes: &[u8]) -> Result<Formula, CnfFault>
     requires { length bytes.now < 2 ^ 32 }
     ensures formula { IfOk result (λ f. reading bytes.now ≡ Ok f) }
-    ensures fault { IfErr result (IsFaultOf bytes.now) }
+    ensures fault { IfErr result (IsFaultOfCnf bytes.now) }
 {
     let (vars, clauses) = read_clauses(alloc, bytes, List::make(alloc))?;
     Ok(Formula { vars, clauses })

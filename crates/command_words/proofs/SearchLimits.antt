@@ -5,7 +5,7 @@ use Rattle.std.specs.Str.{is_utf8}
 use Rattle.std.proofs.lemmas.Bool.{and_parts, leb-true}
 use Rattle.arc_base.specs.PrefixText.{prefix_of}
 use Rattle.arc_base.specs.WordNumbers.{is_natural, value_after}
-use Rattle.command_words.specs.Commands.{Form, HasLimit, Look, argument_of, command_by, command_in, command_of, form_named, is_whole, links_or_none, number_or, options_of}
+use Rattle.command_words.specs.Commands.{Form, HasLimit, Look, argument_of, command_by, command_in, command_of, form_named, is_whole_command, links_or_none, number_or, options_of}
 use Rattle.command_words.specs.Values.{number_within, router_names}
 use Rattle.command_words.specs.Words.{Given, arguments_of}
 use Rattle.command_words.specs.declared.commands.Command.{Command}
@@ -99,7 +99,7 @@ line_limited : (words : List (List ℕ)) → Limited (command_in words)
 line_limited [] = tt
 line_limited (name ∷ words) =
     next (form_named name) _ (λ form. next (arguments_of (options_of form) words) _ (λ given.
-    either (is_whole form given) (command_by form.kind (argument_of form given)) (kind_limited form.kind (argument_of form given))))
+    either (is_whole_command form given) (command_by form.kind (argument_of form given)) (kind_limited form.kind (argument_of form given))))
 
 pub command_limited : (words : List (List ℕ)) → Limited (command_of words)
 command_limited words = either (list_all is_utf8 words) (command_in words) (line_limited words)

@@ -190,15 +190,15 @@ argument_of form given name = if names_one (options_of form) name then value_of 
     else word_at form.places (positionals given) name
 
 -- each option that must be given is, and each place has a word, and there are no more words
-abbrev pub is_whole : Form → List Given → Bool
-is_whole form given = list_all (λ name. is_some (value_of name given)) form.needed
+abbrev pub is_whole_command : Form → List Given → Bool
+is_whole_command form given = list_all (λ name. is_some (value_of name given)) form.needed
     && (length (positionals given) == length form.places)
 
 -- what the words that follow a command's name mean
 abbrev pub meaning : Form → List (List ℕ) → Option Command
 meaning form words = do
   given ← arguments_of (options_of form) words
-  if is_whole form given then command_by form.kind (argument_of form given) else None
+  if is_whole_command form given then command_by form.kind (argument_of form given) else None
 
 -- the row of the command of this name
 abbrev pub form_named : List ℕ → Option Form

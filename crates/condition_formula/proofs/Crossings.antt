@@ -18,9 +18,10 @@ use Rattle.condition_formula.specs.declared.condition.Condition.{Condition}
 use Rattle.condition_formula.specs.declared.network.ConditionArc.{ConditionArc}
 use Rattle.condition_formula.specs.declared.network.Question.{Question}
 use Rattle.condition_formula.specs.Lists.{upto}
-use Rattle.condition_formula.specs.Conditions.{holds, IsOfEdits, HasEdits, IsSound, IsClearArc, lists_of, is_routed, bare, routed_arcs}
+use Rattle.condition_formula.specs.Conditions.{comes_true, IsOfEdits, IsAboutEdits, IsSound, IsClearArc, lists_of, is_routed, bare, routed_arcs}
 use Rattle.condition_formula.specs.Clauses.{yes, no, affirmed, denied, part_value, parts_value, Fulfils}
-use Rattle.condition_formula.specs.Reaching.{arc_at, places, out_of, into, exclusions, implications, routed_parts, node_parts, once_parts, between, family_parts, over_link, clear_parts, paths_parts}
+use Rattle.condition_formula.specs.Reaching.{arc_at, places, out_of, into, exclusions, implications, routed_parts, node_parts, once_parts, inner_nodes, family_parts, over_link, clear_parts}
+use Rattle.condition_formula.specs.Reaching.{paths_parts}
 use Rattle.condition_formula.proofs.Parts.{Agrees, affirmed_is, denied_is, any_to, all_from, all_to, all_or_some}
 use Rattle.condition_formula.proofs.Places.{in_upto, below, one_of, only_one, not_true, excluded, Fulfils-left, Fulfils-right, Fulfils-piece}
 use Rattle.condition_formula.proofs.Distinct.{fit_into, upto-rising}
@@ -31,7 +32,7 @@ pub record Family (a chosen : ℕ → Bool) (q : Question) (nodes : ℕ) (used :
   pub routed : (place : ℕ) → place < length q.arcs → a (used place) ≡ true → is_routed chosen (arc_at q place) ≡ true
   pub starts : (place : ℕ) × Contains (out_of q q.source) place × (a (used place) ≡ true)
   pub not_back : (place : ℕ) → Contains (into q q.source) place → a (used place) ≡ true → ⊥
-  pub goes_on : (node place : ℕ) → Contains (between q nodes) node → Contains (into q node) place → a (used place) ≡ true → (next : ℕ) × Contains (out_of q node) next × (a (used next) ≡ true)
+  pub goes_on : (node place : ℕ) → Contains (inner_nodes q nodes) node → Contains (into q node) place → a (used place) ≡ true → (next : ℕ) × Contains (out_of q node) next × (a (used next) ≡ true)
   pub one_in : (node i j : ℕ) → node < nodes → Contains (into q node) i → Contains (into q node) j → (i ≡ j → ⊥) → a (used i) ≡ true → a (used j) ≡ true → ⊥
 
 pub family : (a chosen : ℕ → Bool) (nodes links edits : ℕ) (q : Question) (used : ℕ → ℕ) → IsSound nodes links edits q → Agrees a chosen edits →
@@ -41,7 +42,7 @@ family a chosen nodes links edits q used sound g h =
     let end = map (λ (p : ℕ). yes (used p)) (into q q.target) in
     let back = map (λ (p : ℕ). no (used p) ∷ []) (into q q.source) in
     let away = map (λ (p : ℕ). no (used p) ∷ []) (out_of q q.target) in
-    let nexts = flat_map (node_parts q used) (between q nodes) in
+    let nexts = flat_map (node_parts q used) (inner_nodes q nodes) in
     let onces = flat_map (once_parts q used) (upto nodes) in
     let all = routed_parts q used in
     let ends = start ∷ end ∷ [] in
@@ -49,11 +50,11 @@ family a chosen nodes links edits q used sound g h =
     let to_back : Fulfils a (all ++ ends ++ back) = Fulfils-left a (all ++ ends ++ back) away to_away in
     let to_ends : Fulfils a (all ++ ends) = Fulfils-left a (all ++ ends) back to_back in
     record {
-      routed = λ place l on. all_from (holds chosen) (arc_at q place).routing (λ c m.
+      routed = λ place l on. all_from (comes_true chosen) (arc_at q place).routing (λ c m.
           let clause = no (used place) ∷ affirmed c ∷ [] in
           let t : IsTrue (parts_value a clause) = Fulfils-piece a (λ (p : ℕ). map (λ (d : Condition). no (used p) ∷ affirmed d ∷ []) (arc_at q p).routing) (places q) place
           (Fulfils-left a all ends to_ends) (in_upto (length q.arcs) place l) clause (Contains-map (λ (d : Condition). no (used place) ∷ affirmed d ∷ []) (arc_at q place).routing c m) in
-          let of : IsOfEdits edits c = All-contains (IsOfEdits edits) (arc_at q place).routing c (All-contains (HasEdits edits) q.arcs (arc_at q place) sound.arcs (is_arc q place l)).routing m in
+          let of : IsOfEdits edits c = All-contains (IsOfEdits edits) (arc_at q place).routing c (All-contains (IsAboutEdits edits) q.arcs (arc_at q place) sound.arcs (is_arc q place l)).routing m in
           elim (one_of (not (a (used place))) (part_value a (affirmed c)) t) [
             | inl off ↦ absurd (not_true (a (used place)) on off)
             | inr yes_c ↦ sym (affirmed_is a chosen edits c g of) ∙ yes_c
@@ -65,7 +66,7 @@ family a chosen nodes links edits q used sound g h =
       goes_on = λ node place n m on.
           one_implies a used place (out_of q node)
           (Fulfils-left a (implications used (into q node) (out_of q node)) (implications used (out_of q node) (into q node))
-          (Fulfils-piece a (node_parts q used) (between q nodes) node (Fulfils-right a (all ++ ends ++ back ++ away) nexts (Fulfils-left a (all ++ ends ++ back ++ away ++ nexts) onces h)) n)
+          (Fulfils-piece a (node_parts q used) (inner_nodes q nodes) node (Fulfils-right a (all ++ ends ++ back ++ away) nexts (Fulfils-left a (all ++ ends ++ back ++ away ++ nexts) onces h)) n)
           (no (used place) ∷ map (λ (other : ℕ). yes (used other)) (out_of q node))
           (Contains-map (λ (p : ℕ). no (used p) ∷ map (λ (other : ℕ). yes (used other)) (out_of q node)) (into q node) place m)) on;
       one_in = λ node i j l m n ne s t.
@@ -140,7 +141,7 @@ no_escape a chosen nodes links edits q used side sound fam s_in t_out closed =
           let x = of p.0 p.1 in
           let hd_in : side (head p.0) ≡ true = closed p.0 x.0 x.1 x.2 in
           let node : head p.0 < nodes = (joins_at nodes links edits q sound p.0 x.0).head_node in
-          let mid : Contains (between q nodes) (head p.0) = Contains-filter (λ (k : ℕ). not (k == q.source) && not (k == q.target)) (upto nodes) (head p.0) (in_upto nodes (head p.0) node)
+          let mid : Contains (inner_nodes q nodes) (head p.0) = Contains-filter (λ (k : ℕ). not (k == q.source) && not (k == q.target)) (upto nodes) (head p.0) (in_upto nodes (head p.0) node)
           (and_from (not (head p.0 == q.source)) (not (head p.0 == q.target)) (ap not (ne_eqb (head p.0) q.source (λ e. not_s p.0 x.0 x.1 e)))
           (ap not (ne_eqb (head p.0) q.target (λ e. both_ways (side q.target) t_out (ap side (sym e) ∙ hd_in))))) in
           let next = fam.goes_on (head p.0) p.0 mid (at_place q (λ arc. arc.head == head p.0) p.0 x.0 (eq-eqb (head p.0) (head p.0) refl)) x.1 in
@@ -250,15 +251,15 @@ clear_from_model a chosen nodes links edits q many used sound g h class l arc m 
     let both : Fulfils a (clear_parts class arc) = Fulfils-piece a (clear_parts class) q.arcs arc
     (Fulfils-piece a (λ (c : ℕ). flat_map (clear_parts c) q.arcs) (upto (length q.classes)) class (Fulfils-left a clears families (Fulfils-left a (clears ++ families) overs h))
     (in_upto (length q.classes) class l)) m in
-    let has : HasEdits edits arc = All-contains (HasEdits edits) q.arcs arc sound.arcs m in
+    let has : IsAboutEdits edits arc = All-contains (IsAboutEdits edits) q.arcs arc sound.arcs m in
     let out = (lists_of arc class).outbound in
     let ins = (lists_of arc class).inbound in
-    let says : (c : Condition) → IsOfEdits edits c → IsTrue (parts_value a (map denied arc.routing ++ affirmed c ∷ [])) → holds chosen c ≡ true = λ c of t.
+    let says : (c : Condition) → IsOfEdits edits c → IsTrue (parts_value a (map denied arc.routing ++ affirmed c ∷ [])) → comes_true chosen c ≡ true = λ c of t.
     let r = any_to (part_value a) (map denied arc.routing ++ affirmed c ∷ []) t in
     elim (Contains-append_cases (map denied arc.routing) (affirmed c ∷ []) r.0 r.1) [
       | inl d ↦
           let e = from_map denied arc.routing r.0 d in
-          absurd (not_true (holds chosen e.0) (all_to (holds chosen) arc.routing e.0 routed e.1)
+          absurd (not_true (comes_true chosen e.0) (all_to (comes_true chosen) arc.routing e.0 routed e.1)
           (sym (denied_is a chosen edits e.0 g (All-contains (IsOfEdits edits) arc.routing e.0 has.routing e.1)) ∙ (ap (part_value a) e.2 ∙ r.2)))
       | inr last ↦ elim (Contains-cases (affirmed c) r.0 [] last) [
         | inl e ↦ sym (affirmed_is a chosen edits c g of) ∙ (ap (part_value a) e ∙ r.2)

@@ -10,15 +10,16 @@ use Rattle.std.proofs.lemmas.List.Concat.{flat_map-append}
 use Rattle.arc_base.specs.declared.place.Link.{Link}
 use Rattle.arc_base.proofs.Items.{Contains-head, Contains-map, from_map, from_piece, from_filter, AllPairs-among, AllPairs-map, AllPairs-none, AllPairs-append}
 use Rattle.graph_flow.specs.declared.arcs.Arc.{Arc}
-use Rattle.graph_flow.specs.Paths.{Path, nodes_of}
+use Rattle.graph_flow.specs.Paths.{ArcPath, nodes_of}
 use Rattle.arc_base.specs.Lists.{AreDistinct}
 use Rattle.condition_formula.specs.declared.condition.Condition.{Condition}
 use Rattle.condition_formula.specs.declared.network.ConditionArc.{ConditionArc}
 use Rattle.condition_formula.specs.declared.network.Question.{Question}
 use Rattle.condition_formula.specs.Lists.{upto}
-use Rattle.condition_formula.specs.Conditions.{holds, IsOfEdits, HasEdits, IsSound, IsClearArc, lists_of, is_routed, bare, routed_arcs}
+use Rattle.condition_formula.specs.Conditions.{comes_true, IsOfEdits, IsAboutEdits, IsSound, IsClearArc, lists_of, is_routed, bare, routed_arcs}
 use Rattle.condition_formula.specs.Clauses.{yes, no, affirmed, denied, part_value, parts_value, Fulfils}
-use Rattle.condition_formula.specs.Reaching.{arc_at, places, out_of, into, exclusions, implications, routed_parts, node_parts, once_parts, between, family_parts, over_link, clear_parts, paths_parts}
+use Rattle.condition_formula.specs.Reaching.{arc_at, places, out_of, into, exclusions, implications, routed_parts, node_parts, once_parts, inner_nodes, family_parts, over_link, clear_parts}
+use Rattle.condition_formula.specs.Reaching.{paths_parts}
 use Rattle.condition_formula.proofs.Parts.{Agrees, affirmed_is, denied_is, any_from, any_to, all_to, all_or_some}
 use Rattle.condition_formula.proofs.Places.{below, not_true, excludes, Fulfils-append, Fulfils-cons, Fulfils-none, Fulfils-map, Fulfils-flat_map}
 use Rattle.condition_formula.proofs.Used.{at_place, from_place, places-rising, is_arc, one_place, from_routed, use_some}
@@ -30,7 +31,7 @@ pub record Follows (a : ℕ → Bool) (q : Question) (used : ℕ → ℕ) (way :
   pub from : (place : ℕ) → place < length q.arcs → Contains way (bare (arc_at q place)) → a (used place) ≡ true
 
 -- each arc of the way has a place, which is used
-placed : (a chosen : ℕ → Bool) (q : Question) (used : ℕ → ℕ) (s t : ℕ) (way : List Arc) → Path (routed_arcs chosen q) s way t → Follows a q used way → (arc : Arc) → Contains way arc →
+placed : (a chosen : ℕ → Bool) (q : Question) (used : ℕ → ℕ) (s t : ℕ) (way : List Arc) → ArcPath (routed_arcs chosen q) s way t → Follows a q used way → (arc : Arc) → Contains way arc →
     (place : ℕ) × (place < length q.arcs) × (bare (arc_at q place) ≡ arc) × (a (used place) ≡ true)
 placed a chosen q used s t way path is arc m =
     let r = from_routed chosen q arc (over (routed_arcs chosen q) s t way path arc m) in
@@ -55,7 +56,7 @@ unused a v h =
 
 -- the arcs of a way make the clauses of a family true
 pub family_true : (a chosen : ℕ → Bool) (nodes links edits : ℕ) (q : Question) (used : ℕ → ℕ) (way : List Arc) → IsSound nodes links edits q → Agrees a chosen edits → q.source ≢ q.target →
-    Path (routed_arcs chosen q) q.source way q.target → AreDistinct (nodes_of q.source way) → Follows a q used way → Fulfils a (family_parts q nodes used)
+    ArcPath (routed_arcs chosen q) q.source way q.target → AreDistinct (nodes_of q.source way) → Follows a q used way → Fulfils a (family_parts q nodes used)
 family_true a chosen nodes links edits q used way sound g apart path once is =
     let arcs = routed_arcs chosen q in
     let s = q.source in
@@ -66,7 +67,7 @@ family_true a chosen nodes links edits q used way sound g apart path once is =
     let end = map (λ (p : ℕ). yes (used p)) (into q t) in
     let back = map (λ (p : ℕ). no (used p) ∷ []) (into q s) in
     let away = map (λ (p : ℕ). no (used p) ∷ []) (out_of q t) in
-    let nexts = flat_map (node_parts q used) (between q nodes) in
+    let nexts = flat_map (node_parts q used) (inner_nodes q nodes) in
     let onces = flat_map (once_parts q used) (upto nodes) in
     let all = routed_parts q used in
     let at_tail : (n p : ℕ) → Contains (out_of q n) p → (p < length q.arcs) × (tail p ≡ n) = λ n p m. let r = from_place q (λ arc. arc.tail == n) p m in (r.0, eqb-true (tail p) n r.1) in
@@ -82,24 +83,24 @@ family_true a chosen nodes links edits q used way sound g apart path once is =
     let routed : Fulfils a all = Fulfils-flat_map a (λ (p : ℕ). map (λ (c : Condition). no (used p) ∷ affirmed c ∷ []) (arc_at q p).routing) (places q) (λ p m.
     let l : p < length q.arcs = below (length q.arcs) p m in
     Fulfils-map a (λ (c : Condition). no (used p) ∷ affirmed c ∷ []) (arc_at q p).routing (λ c n.
-    let of : IsOfEdits edits c = All-contains (IsOfEdits edits) (arc_at q p).routing c (All-contains (HasEdits edits) q.arcs (arc_at q p) sound.arcs (is_arc q p l)).routing n in
+    let of : IsOfEdits edits c = All-contains (IsOfEdits edits) (arc_at q p).routing c (All-contains (IsAboutEdits edits) q.arcs (arc_at q p) sound.arcs (is_arc q p l)).routing n in
     elim (cases_Bool (a (used p))) [
       | inl on ↦
           let r = from_routed chosen q (bare (arc_at q p)) (over arcs s t way path (bare (arc_at q p)) (is.to p l on)) in
           let same : r.0 ≡ p = one_place nodes links edits q sound r.0 p r.1 l r.2 in
           or_right (not (a (used p))) (part_value a (affirmed c) || false) (or_left (part_value a (affirmed c)) false
-          (affirmed_is a chosen edits c g of ∙ all_to (holds chosen) (arc_at q p).routing c (subst (λ (k : ℕ). is_routed chosen (arc_at q k) ≡ true) same r.3) n))
+          (affirmed_is a chosen edits c g of ∙ all_to (comes_true chosen) (arc_at q p).routing c (subst (λ (k : ℕ). is_routed chosen (arc_at q k) ≡ true) same r.3) n))
       | inr off ↦ or_left (not (a (used p))) (part_value a (affirmed c) || false) (ap not off)
     ])) in
     let backs : Fulfils a back = Fulfils-map a (λ (p : ℕ). no (used p) ∷ []) (into q s) (λ p m. let h = at_head s p m in
     unused a (used p) (λ on. not_back s way once (bare (arc_at q p)) (is.to p h.0 on) h.1)) in
     let aways : Fulfils a away = Fulfils-map a (λ (p : ℕ). no (used p) ∷ []) (out_of q t) (λ p m. let h = at_tail t p m in
     unused a (used p) (λ on. not_on arcs s t way path once (bare (arc_at q p)) (is.to p h.0 on) h.1)) in
-    let between_is : (n : ℕ) → Contains (between q nodes) n → (n ≡ s → ⊥) × (n ≡ t → ⊥) = λ n m.
+    let between_is : (n : ℕ) → Contains (inner_nodes q nodes) n → (n ≡ s → ⊥) × (n ≡ t → ⊥) = λ n m.
     let r = from_filter (λ (k : ℕ). not (k == s) && not (k == t)) (upto nodes) n m in
     let b = and_parts (not (n == s)) (not (n == t)) r.1 in
     (λ e. not_true (n == s) (eq-eqb n s e) b.0, λ e. not_true (n == t) (eq-eqb n t e) b.1) in
-    let nodes_true : Fulfils a nexts = Fulfils-flat_map a (node_parts q used) (between q nodes) (λ n m.
+    let nodes_true : Fulfils a nexts = Fulfils-flat_map a (node_parts q used) (inner_nodes q nodes) (λ n m.
     let apart_n = between_is n m in
     Fulfils-append a (implications used (into q n) (out_of q n)) (implications used (out_of q n) (into q n))
     (Fulfils-map a (λ (p : ℕ). no (used p) ∷ map (λ (other : ℕ). yes (used other)) (out_of q n)) (into q n) (λ p i. let h = at_head n p i in
@@ -156,7 +157,7 @@ alike_itself : (x : Arc) → alike x x ≡ true
 alike_itself x = and_from (x.link.0 == x.link.0) ((x.tail == x.tail) && (x.head == x.head)) (eq-eqb x.link.0 x.link.0 refl)
     (and_from (x.tail == x.tail) (x.head == x.head) (eq-eqb x.tail x.tail refl) (eq-eqb x.head x.head refl))
 
-pub follows : (a chosen : ℕ → Bool) (q : Question) (used : ℕ → ℕ) (s t : ℕ) (way : List Arc) → Path (routed_arcs chosen q) s way t →
+pub follows : (a chosen : ℕ → Bool) (q : Question) (used : ℕ → ℕ) (s t : ℕ) (way : List Arc) → ArcPath (routed_arcs chosen q) s way t →
     ((place : ℕ) → place < length q.arcs → a (used place) ≡ is_on q way place) → Follows a q used way
 follows a chosen q used s t way path is = record {
   to = λ place l on.
@@ -168,13 +169,13 @@ follows a chosen q used s t way path is = record {
 }
 
 -- a routed arc that is clear makes its clauses true, and so does one that is not routed
-clear_true : (a chosen : ℕ → Bool) (edits class : ℕ) (arc : ConditionArc) → Agrees a chosen edits → HasEdits edits arc →
+clear_true : (a chosen : ℕ → Bool) (edits class : ℕ) (arc : ConditionArc) → Agrees a chosen edits → IsAboutEdits edits arc →
     (IsTrue (is_routed chosen arc) → IsClearArc chosen class arc) → Fulfils a (clear_parts class arc)
 clear_true a chosen edits class arc g has clear =
     let out = (lists_of arc class).outbound in
     let ins = (lists_of arc class).inbound in
-    let says : (c : Condition) → IsOfEdits edits c → (IsTrue (is_routed chosen arc) → holds chosen c ≡ true) → IsTrue (parts_value a (map denied arc.routing ++ affirmed c ∷ [])) = λ c of h.
-    elim (all_or_some (holds chosen) arc.routing) [
+    let says : (c : Condition) → IsOfEdits edits c → (IsTrue (is_routed chosen arc) → comes_true chosen c ≡ true) → IsTrue (parts_value a (map denied arc.routing ++ affirmed c ∷ [])) = λ c of h.
+    elim (all_or_some (comes_true chosen) arc.routing) [
       | inl routed ↦ any_from (part_value a) (map denied arc.routing ++ affirmed c ∷ []) (affirmed c)
           (Contains-append_right (map denied arc.routing) (affirmed c ∷ []) (affirmed c) (Contains-head (affirmed c) []))
           (affirmed_is a chosen edits c g of ∙ h routed)
@@ -237,7 +238,7 @@ paths_true a chosen nodes links edits q many used sound g apart w clear is =
     (Fulfils-append a clears families
     (Fulfils-flat_map a (λ (class : ℕ). flat_map (clear_parts class) q.arcs) (upto (length q.classes)) (λ class m.
     Fulfils-flat_map a (clear_parts class) q.arcs
-    (λ arc n. clear_true a chosen edits class arc g (All-contains (HasEdits edits) q.arcs arc sound.arcs n) (clear class (below (length q.classes) class m) arc n))))
+    (λ arc n. clear_true a chosen edits class arc g (All-contains (IsAboutEdits edits) q.arcs arc sound.arcs n) (clear class (below (length q.classes) class m) arc n))))
     (Fulfils-flat_map a (λ (f : ℕ). family_parts q nodes (used f)) (upto many) (λ f m.
     let l : f < many = below many f m in
     family_true a chosen nodes links edits q (used f) (w.way f) sound g apart (w.leads f l) (w.once f l) (fol f l))))

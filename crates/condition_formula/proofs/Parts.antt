@@ -13,10 +13,10 @@ use Rattle.cnf_types.specs.Literals.{literal}
 use Rattle.cnf_types.specs.Formulas.{value, clause_value}
 use Rattle.condition_formula.specs.declared.condition.Condition.{Condition}
 use Rattle.condition_formula.specs.declared.condition.Condition.TheVariants.{Always, Never, If, Unless}
-use Rattle.condition_formula.specs.Conditions.{holds, IsOfEdits}
+use Rattle.condition_formula.specs.Conditions.{comes_true, IsOfEdits}
 use Rattle.condition_formula.specs.declared.part.Part.{Part}
 use Rattle.condition_formula.specs.declared.part.Part.TheVariants.{Fixed, Literal}
-use Rattle.condition_formula.specs.Clauses.{edit_variable, affirmed, denied, part_value, parts_value, Fulfils, is_fixed_true, literal_of, with_literal, distinct, written, written_clauses}
+use Rattle.condition_formula.specs.Clauses.{edit_variable, affirmed, denied, part_value, parts_value, Fulfils, is_fixed_true, part_literal, with_new, distinct_lits, written, written_clauses}
 
 pub any_from : {X : Type 0} (f : X → Bool) (xs : List X) (x : X) → Contains xs x → f x ≡ true → list_any f xs ≡ true
 any_from f [] x m e = absurd (Contains-none x m)
@@ -63,7 +63,7 @@ all_or_some f (y ∷ xs) =
 abbrev pub Agrees : (ℕ → Bool) → (ℕ → Bool) → ℕ → Type 0
 Agrees assignment chosen edits = (edit : ℕ) → edit < edits → assignment (edit_variable edit) ≡ chosen edit
 
-pub affirmed_is : (a chosen : ℕ → Bool) (edits : ℕ) (c : Condition) → Agrees a chosen edits → IsOfEdits edits c → part_value a (affirmed c) ≡ holds chosen c
+pub affirmed_is : (a chosen : ℕ → Bool) (edits : ℕ) (c : Condition) → Agrees a chosen edits → IsOfEdits edits c → part_value a (affirmed c) ≡ comes_true chosen c
 affirmed_is a chosen edits Always g o = refl
 affirmed_is a chosen edits Never g o = refl
 affirmed_is a chosen edits (If e) g o = g e o
@@ -73,7 +73,7 @@ twice : (b : Bool) → b ≡ not (not b)
 twice true = refl
 twice false = refl
 
-pub denied_is : (a chosen : ℕ → Bool) (edits : ℕ) (c : Condition) → Agrees a chosen edits → IsOfEdits edits c → part_value a (denied c) ≡ not (holds chosen c)
+pub denied_is : (a chosen : ℕ → Bool) (edits : ℕ) (c : Condition) → Agrees a chosen edits → IsOfEdits edits c → part_value a (denied c) ≡ not (comes_true chosen c)
 denied_is a chosen edits Always g o = refl
 denied_is a chosen edits Never g o = refl
 denied_is a chosen edits (If e) g o = ap not (g e o)
@@ -114,23 +114,23 @@ or_false : (x : Bool) → (x || false) ≡ x
 or_false true = refl
 or_false false = refl
 
-fold_value : (a : ℕ → Bool) (front lits : List Lit) → clause_value a (fold with_literal front lits) ≡ (clause_value a front || clause_value a lits)
+fold_value : (a : ℕ → Bool) (front lits : List Lit) → clause_value a (fold with_new front lits) ≡ (clause_value a front || clause_value a lits)
 fold_value a front [] = sym (or_false (clause_value a front))
 fold_value a front (l ∷ lits) =
-    fold_value a (with_literal front l) lits
+    fold_value a (with_new front l) lits
     ∙ ap (λ (b : Bool). b || clause_value a lits) (with_literal_value a front l (list_any (λ (x : Lit). x.code == l.code) front) refl)
     ∙ or_assoc (clause_value a front) (value a l) (clause_value a lits)
 
 -- writing each literal once changes nothing
-pub distinct_value : (a : ℕ → Bool) (lits : List Lit) → clause_value a (distinct lits) ≡ clause_value a lits
+pub distinct_value : (a : ℕ → Bool) (lits : List Lit) → clause_value a (distinct_lits lits) ≡ clause_value a lits
 distinct_value a lits = fold_value a [] lits
 
-literals_value : (a : ℕ → Bool) (parts : List Part) → list_any is_fixed_true parts ≡ false → clause_value a (filter_map literal_of parts) ≡ parts_value a parts
+literals_value : (a : ℕ → Bool) (parts : List Part) → list_any is_fixed_true parts ≡ false → clause_value a (filter_map part_literal parts) ≡ parts_value a parts
 literals_value a [] e = refl
 literals_value a (Fixed true ∷ parts) e = absurd (both_ways true e refl)
 literals_value a (Fixed false ∷ parts) e = literals_value a parts e
 literals_value a (Literal v p ∷ parts) e =
-    ap (λ (b : Bool). b || clause_value a (filter_map literal_of parts)) (literal_value a v p)
+    ap (λ (b : Bool). b || clause_value a (filter_map part_literal parts)) (literal_value a v p)
     ∙ ap (λ (b : Bool). part_value a (Literal v p) || b) (literals_value a parts e)
 
 fixed_value : (a : ℕ → Bool) (part : Part) → is_fixed_true part ≡ true → part_value a part ≡ true
@@ -139,7 +139,7 @@ fixed_value a (Literal v p) e = absurd (false≢true e)
 
 -- what is written for this result of the test
 abbrev written_if : Bool → List Part → Option (List Lit)
-written_if b parts = if b then None else Some (distinct (filter_map literal_of parts))
+written_if b parts = if b then None else Some (distinct_lits (filter_map part_literal parts))
 
 -- a clause that is left out is true
 pub left_out : (a : ℕ → Bool) (parts : List Part) → list_any is_fixed_true parts ≡ true → parts_value a parts ≡ true
@@ -148,8 +148,8 @@ left_out a parts e =
     any_from (part_value a) parts r.0 r.1 (fixed_value a r.0 r.2)
 
 -- a clause that is written has the value of its parts
-pub written_value : (a : ℕ → Bool) (parts : List Part) → list_any is_fixed_true parts ≡ false → clause_value a (distinct (filter_map literal_of parts)) ≡ parts_value a parts
-written_value a parts e = distinct_value a (filter_map literal_of parts) ∙ literals_value a parts e
+pub written_value : (a : ℕ → Bool) (parts : List Part) → list_any is_fixed_true parts ≡ false → clause_value a (distinct_lits (filter_map part_literal parts)) ≡ parts_value a parts
+written_value a parts e = distinct_value a (filter_map part_literal parts) ∙ literals_value a parts e
 
 abbrev clause_of : List Lit → Clause
 clause_of lits = record { lits = lits }
@@ -162,7 +162,7 @@ first_to : (a : ℕ → Bool) (parts : List Part) (rest : List (List Lit)) (b : 
     IsTrue (parts_value a parts) → All (λ (c : Clause). IsTrue (clause_value a c.lits)) (map clause_of rest) →
     All (λ (c : Clause). IsTrue (clause_value a c.lits)) (onto_clauses (written_if b parts) rest)
 first_to a parts rest true e t all = all
-first_to a parts rest false e t all = All-cons (λ (c : Clause). IsTrue (clause_value a c.lits)) (clause_of (distinct (filter_map literal_of parts))) (map clause_of rest)
+first_to a parts rest false e t all = All-cons (λ (c : Clause). IsTrue (clause_value a c.lits)) (clause_of (distinct_lits (filter_map part_literal parts))) (map clause_of rest)
     (written_value a parts e ∙ t) all
 
 first_from : (a : ℕ → Bool) (parts : List Part) (rest : List (List Lit)) (b : Bool) → list_any is_fixed_true parts ≡ b →
@@ -170,8 +170,8 @@ first_from : (a : ℕ → Bool) (parts : List Part) (rest : List (List Lit)) (b 
     IsTrue (parts_value a parts) × All (λ (c : Clause). IsTrue (clause_value a c.lits)) (map clause_of rest)
 first_from a parts rest true e all = (left_out a parts e, all)
 first_from a parts rest false e all = (
-  sym (written_value a parts e) ∙ All-head (λ (c : Clause). IsTrue (clause_value a c.lits)) (clause_of (distinct (filter_map literal_of parts))) (map clause_of rest) all,
-  All-tail (λ (c : Clause). IsTrue (clause_value a c.lits)) (clause_of (distinct (filter_map literal_of parts))) (map clause_of rest) all,
+  sym (written_value a parts e) ∙ All-head (λ (c : Clause). IsTrue (clause_value a c.lits)) (clause_of (distinct_lits (filter_map part_literal parts))) (map clause_of rest) all,
+  All-tail (λ (c : Clause). IsTrue (clause_value a c.lits)) (clause_of (distinct_lits (filter_map part_literal parts))) (map clause_of rest) all,
 )
 
 -- an assignment makes the written clauses true exactly if it makes the clauses true that they were written from

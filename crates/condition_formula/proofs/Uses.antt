@@ -12,11 +12,11 @@ use Rattle.condition_formula.specs.declared.part.Part.TheVariants.{Fixed, Litera
 use Rattle.condition_formula.specs.declared.network.ConditionArc.{ConditionArc}
 use Rattle.condition_formula.specs.declared.network.Question.{Question}
 use Rattle.condition_formula.specs.Lists.{upto, pairs}
-use Rattle.condition_formula.specs.Conditions.{IsOfEdits, HasEdits, IsSound, lists_of, conditions_of, ends_of, counted, is_counted, bare}
+use Rattle.condition_formula.specs.Conditions.{IsOfEdits, IsAboutEdits, IsSound, lists_of, conditions_of, ends_of, counted_arcs, is_counted, bare}
 use Rattle.condition_formula.specs.Clauses.{yes, no, affirmed, denied, edit_variable}
 use Rattle.condition_formula.specs.Sides.{step_parts, side_parts, kept_off_parts}
 use Rattle.condition_formula.specs.Reaching.{arc_at, places, out_of, into, exclusions, implications, routed_parts, node_parts}
-use Rattle.condition_formula.specs.Reaching.{once_parts, between, family_parts, over_link, ends_parts, clear_parts, paths_parts, reached_parts}
+use Rattle.condition_formula.specs.Reaching.{once_parts, inner_nodes, family_parts, over_link, ends_parts, clear_parts, paths_parts, reached_parts}
 use Rattle.condition_formula.specs.Prices.{kept_parts, added_parts, price_parts}
 use Rattle.condition_formula.proofs.Places.{below, from_pairs, InPairs}
 use Rattle.condition_formula.proofs.KeptOff.{of_conditions}
@@ -71,8 +71,8 @@ module _ (P : ℕ → Type 0) (nodes links edits : ℕ) (q : Question) (sound : 
   arc-joins : (arc : ConditionArc) → Contains q.arcs arc → Joins nodes (bare arc)
   arc-joins arc m = All-contains (Joins nodes) (map bare q.arcs) (bare arc) sound.graph.joined (Contains-map bare q.arcs arc m)
 
-  arc-has : (arc : ConditionArc) → Contains q.arcs arc → HasEdits edits arc
-  arc-has arc m = All-contains (HasEdits edits) q.arcs arc sound.arcs m
+  arc-has : (arc : ConditionArc) → Contains q.arcs arc → IsAboutEdits edits arc
+  arc-has arc m = All-contains (IsAboutEdits edits) q.arcs arc sound.arcs m
 
   -- the conditions of routing, denied
   routing-uses : (arc : ConditionArc) → Contains q.arcs arc → Each (Uses P) (map denied arc.routing)
@@ -84,12 +84,12 @@ module _ (P : ℕ → Type 0) (nodes links edits : ℕ) (q : Question) (sound : 
       let l : class < length q.classes = below (length q.classes) class m in
       let enters = denied (ends_of q class).enter ∷ yes (reached class q.source) ∷ [] in
       let leaves = no (reached class q.target) ∷ denied (ends_of q class).leave ∷ [] in
-      let steps = map (step_parts (reached class) class) (counted q) in
+      let steps = map (step_parts (reached class) class) (counted_arcs q) in
       Each-cons (Each (Uses P)) enters (steps ++ leaves ∷ [])
       (Each-cons (Uses P) (denied (ends_of q class).enter) (yes (reached class q.source) ∷ []) (denied-uses P edits (ends_of q class).enter of_edit (sound.ends class).0)
       (Each-cons (Uses P) (yes (reached class q.source)) [] (of_node class q.source l sound.source) (Each-none (Uses P))))
       (Each-append (Each (Uses P)) steps (leaves ∷ [])
-      (Each-map (Each (Uses P)) (step_parts (reached class) class) (counted q) (λ arc n.
+      (Each-map (Each (Uses P)) (step_parts (reached class) class) (counted_arcs q) (λ arc n.
       let is = from_filter (is_counted q.demand) q.arcs arc n in
       let j : Joins nodes (bare arc) = arc-joins arc is.0 in
       let cs = conditions_of arc class in
@@ -142,7 +142,7 @@ module _ (P : ℕ → Type 0) (nodes links edits : ℕ) (q : Question) (sound : 
       let end = map (λ (p : ℕ). yes (used p)) (into q q.target) in
       let back = map (λ (p : ℕ). no (used p) ∷ []) (into q q.source) in
       let away = map (λ (p : ℕ). no (used p) ∷ []) (out_of q q.target) in
-      let nexts = flat_map (node_parts q used) (between q nodes) in
+      let nexts = flat_map (node_parts q used) (inner_nodes q nodes) in
       let onces = flat_map (once_parts q used) (upto nodes) in
       let all = routed_parts q used in
       let single : (v : ℕ) → P v → Each (Uses P) (no v ∷ []) = λ v p. Each-cons (Uses P) (no v) [] p (Each-none (Uses P)) in
@@ -157,12 +157,12 @@ module _ (P : ℕ → Type 0) (nodes links edits : ℕ) (q : Question) (sound : 
       Each-cons (Uses P) (no (used p)) (affirmed c ∷ []) (of_place p l)
       (Each-cons (Uses P) (affirmed c) []
       (affirmed-uses P edits c of_edit
-      (All-contains (IsOfEdits edits) (arc_at q p).routing c (All-contains (HasEdits edits) q.arcs (arc_at q p) sound.arcs (is_arc q p l)).routing n)) (Each-none (Uses P))))))
+      (All-contains (IsOfEdits edits) (arc_at q p).routing c (All-contains (IsAboutEdits edits) q.arcs (arc_at q p) sound.arcs (is_arc q p l)).routing n)) (Each-none (Uses P))))))
       (Each-cons (Each (Uses P)) start (end ∷ []) (Each-map (Uses P) (λ (p : ℕ). yes (used p)) (out_of q q.source) (out_at q.source))
       (Each-cons (Each (Uses P)) end [] (Each-map (Uses P) (λ (p : ℕ). yes (used p)) (into q q.target) (in_at q.target)) (Each-none (Each (Uses P))))))
       (Each-map (Each (Uses P)) (λ (p : ℕ). no (used p) ∷ []) (into q q.source) (λ p m. single (used p) (in_at q.source p m))))
       (Each-map (Each (Uses P)) (λ (p : ℕ). no (used p) ∷ []) (out_of q q.target) (λ p m. single (used p) (out_at q.target p m))))
-      (Each-flat_map (Each (Uses P)) (node_parts q used) (between q nodes) (λ n m.
+      (Each-flat_map (Each (Uses P)) (node_parts q used) (inner_nodes q nodes) (λ n m.
       Each-append (Each (Uses P)) (implications used (into q n) (out_of q n)) (implications used (out_of q n) (into q n))
       (implications-use P used (into q n) (out_of q n) (in_at n) (out_at n)) (implications-use P used (out_of q n) (into q n) (out_at n) (in_at n)))))
       (Each-flat_map (Each (Uses P)) (once_parts q used) (upto nodes) (λ n m.

@@ -18,7 +18,7 @@ use Rattle.condition_formula.specs.declared.network.Demand.{Demand}
 use Rattle.condition_formula.specs.declared.network.Demand.TheVariants.{Blocked, Through, Reach}
 use Rattle.condition_formula.specs.Lists.{upto}
 use Rattle.condition_formula.specs.Conditions.{IsSound}
-use Rattle.condition_formula.specs.Clauses.{edit_variable, literal_of, with_literal, distinct, is_fixed_true, written, written_clauses}
+use Rattle.condition_formula.specs.Clauses.{edit_variable, part_literal, with_new, distinct_lits, is_fixed_true, written, written_clauses}
 use Rattle.condition_formula.specs.Formulas.{cell, demand_parts, demand_size, question_size, questions_parts, first_price, all_parts, variable_count}
 use Rattle.condition_formula.specs.Prices.{price_parts}
 use Rattle.condition_formula.specs.Laws.{IsSoundNet, IsVariableOf, FormulasAreOverVariables}
@@ -70,11 +70,11 @@ all-within net most sound clause m =
     ]
 
 -- a literal that is written comes from a part
-literal-from : (parts : List Part) (lit : Lit) → Contains (filter_map literal_of parts) lit → (v : ℕ) × (p : Bool) × Contains parts (Literal v p) × (literal v p ≡ lit)
+literal-from : (parts : List Part) (lit : Lit) → Contains (filter_map part_literal parts) lit → (v : ℕ) × (p : Bool) × Contains parts (Literal v p) × (literal v p ≡ lit)
 literal-from [] lit m = absurd (Contains-none lit m)
 literal-from (Fixed b ∷ parts) lit m = let r = literal-from parts lit m in (r.0, r.1, Contains-tail (Fixed b) (Literal r.0 r.1) parts r.2, r.3)
 literal-from (Literal v p ∷ parts) lit m =
-    elim (Contains-cases (literal v p) lit (filter_map literal_of parts) m) [
+    elim (Contains-cases (literal v p) lit (filter_map part_literal parts) m) [
       | inl e ↦ (v, p, Contains-head (Literal v p) parts, e)
       | inr later ↦ let r = literal-from parts lit later in (r.0, r.1, Contains-tail (Literal v p) (Literal r.0 r.1) parts r.2, r.3)
     ]
@@ -87,10 +87,10 @@ grown-cases lits one lit false m =
       | inr r ↦ elim (Contains-cases one lit [] r) [ inl e ↦ inr e | inr none ↦ absurd (Contains-none lit none) ]
     ]
 
-fold-from : (front lits : List Lit) (lit : Lit) → Contains (fold with_literal front lits) lit → Contains front lit ⊎ Contains lits lit
+fold-from : (front lits : List Lit) (lit : Lit) → Contains (fold with_new front lits) lit → Contains front lit ⊎ Contains lits lit
 fold-from front [] lit m = inl m
 fold-from front (l ∷ lits) lit m =
-    elim (fold-from (with_literal front l) lits lit m) [
+    elim (fold-from (with_new front l) lits lit m) [
       | inl g ↦ elim (grown-cases front l lit (list_any (λ (x : Lit). x.code == l.code) front) g) [
         | inl f ↦ inl f
         | inr e ↦ inr (subst (λ (x : Lit). Contains (l ∷ lits) x) e (Contains-head l lits))
@@ -98,7 +98,7 @@ fold-from front (l ∷ lits) lit m =
       | inr later ↦ inr (Contains-tail l lit lits later)
     ]
 
-distinct-from : (lits : List Lit) (lit : Lit) → Contains (distinct lits) lit → Contains lits lit
+distinct-from : (lits : List Lit) (lit : Lit) → Contains (distinct_lits lits) lit → Contains lits lit
 distinct-from lits lit m = elim (fold-from [] lits lit m) [ inl none ↦ absurd (Contains-none lit none) | inr l ↦ l ]
 
 variable-literal : (v : ℕ) (p : Bool) → variable (literal v p) ≡ v
@@ -115,15 +115,16 @@ abbrev clause_of : List Lit → Clause
 clause_of lits = record { lits = lits }
 
 abbrev written_if : Bool → List Part → Option (List Lit)
-written_if b parts = if b then None else Some (distinct (filter_map literal_of parts))
+written_if b parts = if b then None else Some (distinct_lits (filter_map part_literal parts))
 
 -- a written clause comes from the parts of some clause
 onto-cases : (parts : List Part) (rest : List (List Lit)) (b : Bool) (c : Clause) → Contains (map clause_of (cons_option (written_if b parts) rest)) c →
-    (clause_of (distinct (filter_map literal_of parts)) ≡ c) ⊎ Contains (map clause_of rest) c
+    (clause_of (distinct_lits (filter_map part_literal parts)) ≡ c) ⊎ Contains (map clause_of rest) c
 onto-cases parts rest true c m = inr m
-onto-cases parts rest false c m = Contains-cases (clause_of (distinct (filter_map literal_of parts))) c (map clause_of rest) m
+onto-cases parts rest false c m = Contains-cases (clause_of (distinct_lits (filter_map part_literal parts))) c (map clause_of rest) m
 
-written-from : (clauses : List (List Part)) (c : Clause) → Contains (written_clauses clauses) c → (parts : List Part) × Contains clauses parts × (distinct (filter_map literal_of parts) ≡ c.lits)
+written-from : (clauses : List (List Part)) (c : Clause) → Contains (written_clauses clauses) c → (parts : List Part) × Contains clauses parts ×
+    (distinct_lits (filter_map part_literal parts) ≡ c.lits)
 written-from [] c m = absurd (Contains-none c m)
 written-from (parts ∷ clauses) c m =
     elim (onto-cases parts (filter_map written clauses) (list_any is_fixed_true parts) c m) [
@@ -154,8 +155,8 @@ formulas_are_over_variables net most sound = record {
   clauses = All-from (λ (c : Clause). All (IsVariableOf (variable_count net most)) c.lits) (written_clauses (all_parts net most)) (λ c m.
       let w = written-from (all_parts net most) c m in
       All-from (IsVariableOf (variable_count net most)) c.lits (λ lit n.
-      let in_lits : Contains (distinct (filter_map literal_of w.0)) lit = subst (λ (ls : List Lit). Contains ls lit) (sym w.2) n in
-      let r = literal-from w.0 lit (distinct-from (filter_map literal_of w.0) lit in_lits) in
+      let in_lits : Contains (distinct_lits (filter_map part_literal w.0)) lit = subst (λ (ls : List Lit). Contains ls lit) (sym w.2) n in
+      let r = literal-from w.0 lit (distinct-from (filter_map part_literal w.0) lit in_lits) in
       let inside : Within (variable_count net most) r.0 = all-within net most sound w.0 w.1 (Literal r.0 r.1) r.2 in
       subst (λ (l : Lit). IsVariableOf (variable_count net most) l) r.3 (literal-within (variable_count net most) r.0 r.1 inside)));
   tops = top-within net most (length net.weights == 0) refl;

@@ -59,22 +59,23 @@ is_fixed_true (Fixed truth) = truth
 is_fixed_true (Literal variable positive) = false
 
 -- the literal of a part that is no truth value
-abbrev pub literal_of : Part → Option Lit
-literal_of (Fixed truth) = None
-literal_of (Literal variable positive) = Some (literal variable positive)
+abbrev pub part_literal : Part → Option Lit
+part_literal (Fixed truth) = None
+part_literal (Literal variable positive) = Some (literal variable positive)
 
 -- the literals with one more at the end, unless it is there already
-abbrev pub with_literal : List Lit → Lit → List Lit
-with_literal lits lit = if list_any (λ l. l.code == lit.code) lits then lits else lits ++ lit ∷ []
+abbrev pub with_new : List Lit → Lit → List Lit
+with_new lits lit = if list_any (λ l. l.code == lit.code) lits then lits else lits ++ lit ∷ []
 
 -- the literals, each once
-abbrev pub distinct : List Lit → List Lit
-distinct lits = fold with_literal [] lits
+abbrev pub distinct_lits : List Lit → List Lit
+distinct_lits lits = fold with_new [] lits
 
 -- the literals of a clause, or None if a part makes it true whatever its variables are
 abbrev pub written : List Part → Option (List Lit)
 written parts =
-    if list_any is_fixed_true parts then None else Some (distinct (filter_map literal_of parts))
+    if list_any is_fixed_true parts then None
+    else Some (distinct_lits (filter_map part_literal parts))
 
 -- the clauses that are written: those that no part makes true whatever their variables are
 abbrev pub written_clauses : List (List Part) → List Clause

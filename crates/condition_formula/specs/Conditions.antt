@@ -17,11 +17,11 @@ use Rattle.condition_formula.specs.declared.network.Demand.{Demand}
 use Rattle.condition_formula.specs.declared.network.Demand.TheVariants.{Blocked, Through, Reach}
 
 -- whether the condition holds where these edits are chosen
-abbrev pub holds : (ℕ → Bool) → Condition → Bool
-holds chosen Always = true
-holds chosen Never = false
-holds chosen (If edit) = chosen edit
-holds chosen (Unless edit) = not (chosen edit)
+abbrev pub comes_true : (ℕ → Bool) → Condition → Bool
+comes_true chosen Always = true
+comes_true chosen Never = false
+comes_true chosen (If edit) = chosen edit
+comes_true chosen (Unless edit) = not (chosen edit)
 
 -- the condition's edit is one of the first `edits`
 abbrev pub IsOfEdits : ℕ → Condition → Type 0
@@ -47,11 +47,11 @@ ends_of q class = slice_index_or q.classes class (record { enter = Always; leave
 
 -- whether packets are routed over the arc
 abbrev pub is_routed : (ℕ → Bool) → ConditionArc → Bool
-is_routed chosen arc = list_all (holds chosen) arc.routing
+is_routed chosen arc = list_all (comes_true chosen) arc.routing
 
 -- whether packets of the class are routed over the arc and permitted
-abbrev pub is_open : (ℕ → Bool) → ℕ → ConditionArc → Bool
-is_open chosen class arc = list_all (holds chosen) (conditions_of arc class)
+abbrev pub is_arc_open : (ℕ → Bool) → ℕ → ConditionArc → Bool
+is_arc_open chosen class arc = list_all (comes_true chosen) (conditions_of arc class)
 
 -- whether the arc counts for the demand: for Through the arcs of waypoints do not
 abbrev pub is_counted : Demand → ConditionArc → Bool
@@ -60,8 +60,8 @@ is_counted Through arc = not arc.waypoint
 is_counted (Reach paths) arc = true
 
 -- the arcs that count
-abbrev pub counted : Question → List ConditionArc
-counted q = filter (is_counted q.demand) q.arcs
+abbrev pub counted_arcs : Question → List ConditionArc
+counted_arcs q = filter (is_counted q.demand) q.arcs
 
 -- the arc without its conditions
 abbrev pub bare : ConditionArc → Arc
@@ -69,7 +69,7 @@ bare arc = record { link = arc.link; tail = arc.tail; head = arc.head; cost = 0 
 
 -- the arcs that count and are open to the class
 abbrev pub open_arcs : (ℕ → Bool) → Question → ℕ → List Arc
-open_arcs chosen q class = map bare (filter (is_open chosen class) (counted q))
+open_arcs chosen q class = map bare (filter (is_arc_open chosen class) (counted_arcs q))
 
 -- the arcs over which packets are routed
 abbrev pub routed_arcs : (ℕ → Bool) → Question → List Arc
@@ -77,8 +77,8 @@ routed_arcs chosen q = map bare (filter (is_routed chosen) q.arcs)
 
 -- packets of the class enter at the source, go over open arcs, and leave at the target
 pub record Comes (chosen : ℕ → Bool) (q : Question) (class : ℕ) : Type 0 where
-  pub enter : IsTrue (holds chosen (ends_of q class).enter)
-  pub leave : IsTrue (holds chosen (ends_of q class).leave)
+  pub enter : IsTrue (comes_true chosen (ends_of q class).enter)
+  pub leave : IsTrue (comes_true chosen (ends_of q class).leave)
   pub leads : Leads (open_arcs chosen q class) q.source q.target
 
 -- no packets of any class come from the source to the target
@@ -87,13 +87,13 @@ IsKeptOff chosen q = (class : ℕ) → class < length q.classes → Comes chosen
 
 -- the packets of the class enter and leave
 pub record PassesEnds (chosen : ℕ → Bool) (q : Question) (class : ℕ) : Type 0 where
-  pub enter : IsTrue (holds chosen (ends_of q class).enter)
-  pub leave : IsTrue (holds chosen (ends_of q class).leave)
+  pub enter : IsTrue (comes_true chosen (ends_of q class).enter)
+  pub leave : IsTrue (comes_true chosen (ends_of q class).leave)
 
 -- both packet lists of the arc permit the class
 pub record IsClearArc (chosen : ℕ → Bool) (class : ℕ) (arc : ConditionArc) : Type 0 where
-  pub outbound : IsTrue (holds chosen (lists_of arc class).outbound)
-  pub inbound : IsTrue (holds chosen (lists_of arc class).inbound)
+  pub outbound : IsTrue (comes_true chosen (lists_of arc class).outbound)
+  pub inbound : IsTrue (comes_true chosen (lists_of arc class).inbound)
 
 -- all packets enter and leave; and if the two nodes differ, every routed arc is clear, and `many`
 -- paths share no link
@@ -115,7 +115,7 @@ abbrev pub IsMet : (ℕ → Bool) → Question → Type 0
 IsMet chosen q = MeetsDemand chosen q q.demand
 
 -- the conditions of the arc are about the first `edits` edits
-pub record HasEdits (edits : ℕ) (arc : ConditionArc) : Type 0 where
+pub record IsAboutEdits (edits : ℕ) (arc : ConditionArc) : Type 0 where
   pub routing : All (IsOfEdits edits) arc.routing
   pub lists : (class : ℕ) →
       IsOfEdits edits (lists_of arc class).outbound × IsOfEdits edits (lists_of arc class).inbound
@@ -126,6 +126,6 @@ pub record IsSound (nodes links edits : ℕ) (q : Question) : Type 0 where
   pub target : q.target < nodes
   pub graph : IsGraph (record { nodes = nodes; arcs = map bare q.arcs })
   pub of_links : All (λ arc. arc.link.0 < links) q.arcs
-  pub arcs : All (HasEdits edits) q.arcs
+  pub arcs : All (IsAboutEdits edits) q.arcs
   pub ends : (class : ℕ) →
       IsOfEdits edits (ends_of q class).enter × IsOfEdits edits (ends_of q class).leave

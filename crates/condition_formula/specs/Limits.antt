@@ -36,15 +36,15 @@ pub record HasTooManyLiterals (net : ConditionNet) (bound count : ℕ) : Type 0 
   pub exact : count ≡ min (literal_count (all_parts net bound)) (2 ^ 64 - 1)
 
 -- why there is no formula: too many variables, too many literals, or out of memory
-abbrev pub IsFaultOf : ConditionNet → ℕ → EncodeFault → Type 0
-IsFaultOf net bound Memory = Unit {0}
-IsFaultOf net bound (Limit Variables count) = HasTooManyVariables net bound count
-IsFaultOf net bound (Limit Literals count) = HasTooManyLiterals net bound count
-IsFaultOf net bound (Limit Routers count) = ⊥
-IsFaultOf net bound (Limit Interfaces count) = ⊥
-IsFaultOf net bound (Limit Links count) = ⊥
-IsFaultOf net bound (Limit Policies count) = ⊥
-IsFaultOf net bound (Limit Failures count) = ⊥
-IsFaultOf net bound (Limit Entries count) = ⊥
-IsFaultOf net bound (Limit Classes count) = ⊥
-IsFaultOf net bound (Limit Edits count) = ⊥
+abbrev pub IsFaultOfNet : ConditionNet → ℕ → EncodeFault → Type 0
+IsFaultOfNet net bound Memory = Unit {0}
+IsFaultOfNet net bound (Limit Variables count) = HasTooManyVariables net bound count
+IsFaultOfNet net bound (Limit Literals count) = HasTooManyLiterals net bound count
+IsFaultOfNet net bound (Limit Routers count) = ⊥
+IsFaultOfNet net bound (Limit Interfaces count) = ⊥
+IsFaultOfNet net bound (Limit Links count) = ⊥
+IsFaultOfNet net bound (Limit Policies count) = ⊥
+IsFaultOfNet net bound (Limit Failures count) = ⊥
+IsFaultOfNet net bound (Limit Entries count) = ⊥
+IsFaultOfNet net bound (Limit Classes count) = ⊥
+IsFaultOfNet net bound (Limit Edits count) = ⊥

@@ -63,8 +63,8 @@ abbrev pub once_parts : Question → (ℕ → ℕ) → ℕ → List (List Part)
 once_parts q used node = exclusions used (out_of q node) ++ exclusions used (into q node)
 
 -- the nodes other than source and target
-abbrev pub between : Question → ℕ → List ℕ
-between q nodes = filter (λ node. not (node == q.source) && not (node == q.target)) (upto nodes)
+abbrev pub inner_nodes : Question → ℕ → List ℕ
+inner_nodes q nodes = filter (λ node. not (node == q.source) && not (node == q.target)) (upto nodes)
 
 -- the used arcs are routed, and form a path from the source to the target
 abbrev pub family_parts : Question → ℕ → (ℕ → ℕ) → List (List Part)
@@ -73,7 +73,8 @@ family_parts q nodes used =
     ∷ map (λ place. yes (used place)) (into q q.target) ∷ [])
     ++ map (λ place. no (used place) ∷ []) (into q q.source)
     ++ map (λ place. no (used place) ∷ []) (out_of q q.target)
-    ++ flat_map (node_parts q used) (between q nodes) ++ flat_map (once_parts q used) (upto nodes)
+    ++ flat_map (node_parts q used) (inner_nodes q nodes) ++
+    flat_map (once_parts q used) (upto nodes)
 
 -- the families and places over the link, the families in order
 abbrev pub over_link : Question → ℕ → ℕ → List (ℕ × ℕ)

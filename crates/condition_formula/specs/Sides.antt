@@ -4,7 +4,7 @@ use Rattle.std.specs.Prelude.{ℕ, List, [], ◌∷◌, ◌++◌, length, map, f
 use Rattle.condition_formula.specs.declared.network.ConditionArc.{ConditionArc}
 use Rattle.condition_formula.specs.declared.network.Question.{Question}
 use Rattle.condition_formula.specs.Lists.{upto}
-use Rattle.condition_formula.specs.Conditions.{conditions_of, ends_of, counted}
+use Rattle.condition_formula.specs.Conditions.{conditions_of, ends_of, counted_arcs}
 use Rattle.condition_formula.specs.declared.part.Part.{Part}
 use Rattle.condition_formula.specs.Clauses.{yes, no, denied}
 
@@ -18,7 +18,7 @@ step_parts reached class arc =
 abbrev pub side_parts : Question → (ℕ → ℕ) → ℕ → List (List Part)
 side_parts q reached class =
     (denied (ends_of q class).enter ∷ yes (reached q.source) ∷ [])
-    ∷ map (step_parts reached class) (counted q)
+    ∷ map (step_parts reached class) (counted_arcs q)
     ++ (no (reached q.target) ∷ denied (ends_of q class).leave ∷ []) ∷ []
 
 -- the clauses of every class; `reached` is the variable of a class and a node

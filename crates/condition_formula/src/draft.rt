@@ -1,7 +1,7 @@
 //! A clause under construction, and its literals.
 ghost use Rattle.cnf_types.specs.Literals.{literal};
 ghost use Rattle.condition_formula.specs.Clauses.{yes, no, affirmed, denied, is_fixed_true};
-ghost use Rattle.condition_formula.specs.Clauses.{literal_of, with_literal, distinct};
+ghost use Rattle.condition_formula.specs.Clauses.{part_literal, with_new, distinct_lits};
 ghost use Rattle.condition_formula.specs.Writing.{IsSmall};
 ghost use Rattle.condition_formula.specs.declared.part.Part.TheVariants.{Fixed, Literal};
 ghost use Rattle.std.specs.List.{list_any};
@@ -123,7 +123,7 @@ impl Draft {
 
     /// The literals of the clause, each once.
     pub fn literals(&self, alloc: Global) -> Result<List<Lit>, Memory>
-        ensures { IfOk result (λ lits. lits ≡ distinct (filter_map literal_of self.now)) }
+        ensures { IfOk result (λ lits. lits ≡ distinct_lits (filter_map part_literal self.now)) }
     {
         literals(alloc, self.parts.slice())
     }
@@ -155,7 +155,7 @@ fn contains(lits: &[Lit], lit: Lit) -> bool
 
 /// Adds a literal that is not there yet.
 fn add(lits: &mut List<Lit>, lit: Lit) -> Result<(), Memory>
-    ensures { OnOk result (lits.new ≡ with_literal lits.old lit) }
+    ensures { OnOk result (lits.new ≡ with_new lits.old lit) }
 {
     if contains(lits.slice(), lit) {
         return Ok(());
@@ -181,7 +181,7 @@ pub(crate) fn literal(variable: u64, positive: bool) -> Lit
 fn add_part(lits: &mut List<Lit>, part: Part) -> Result<(), Memory>
     requires { IsSmall part }
     ensures { OnOk result
-        (lits.new ≡ fold with_literal lits.old (filter_map literal_of (part ∷ []))) }
+        (lits.new ≡ fold with_new lits.old (filter_map part_literal (part ∷ []))) }
 {
     match part {
         Part::Fixed(_) => Ok(()),
@@ -192,7 +192,7 @@ fn add_part(lits: &mut List<Lit>, part: Part) -> Result<(), Memory>
 /// The literals of the parts, each once.
 fn literals(alloc: Global, parts: &[Part]) -> Result<List<Lit>, Memory>
     requires { All IsSmall parts.now }
-    ensures { IfOk result (λ lits. lits ≡ distinct (filter_map literal_of parts.now)) }
+    ensures { IfOk result (λ lits. lits ≡ distinct_lits (filter_map part_literal parts.now)) }
 {
     let mut lits = List::make(alloc);
     for part in parts {

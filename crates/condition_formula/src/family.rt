@@ -2,7 +2,7 @@
 ghost use Rattle.condition_formula.specs.Clauses.{yes, no, affirmed};
 ghost use Rattle.condition_formula.specs.Lists.{upto};
 ghost use Rattle.condition_formula.specs.Reaching.{arc_at, routed_parts, node_parts, once_parts};
-ghost use Rattle.condition_formula.specs.Reaching.{between, family_parts, out_of, into};
+ghost use Rattle.condition_formula.specs.Reaching.{inner_nodes, family_parts, out_of, into};
 ghost use Rattle.condition_formula.specs.Writing.{Adds, AreSmall, row_at, picked};
 ghost use Rattle.condition_formula.specs.Writing.{HasIndex, used_by};
 ghost use Rattle.std.specs.Prelude.{◌≡◌, ◌==◌, ◌<◌, ◌&&◌, not, [], ◌∷◌, if◌then◌else◌};
@@ -152,7 +152,7 @@ impl Family<'_> {
         requires { HasIndex self.now }
         ensures { OnOk result (Adds out.old out.new
             (flat_map (node_parts self.now.q.now (used_by self.now))
-            (between self.now.q.now self.now.nodes))) }
+            (inner_nodes self.now.q.now self.now.nodes))) }
     {
         for node in 0..self.nodes {
             self.conserves_between(alloc, out, node)?;

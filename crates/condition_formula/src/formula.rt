@@ -1,7 +1,7 @@
 //! The repair formula of a network of conditions.
 ghost use Rattle.cnf_types.specs.Literals.{literal};
 ghost use Rattle.condition_formula.specs.Formulas.{cell, repair_formula, tops_of};
-ghost use Rattle.condition_formula.specs.Limits.{IsSmallNet, IsWithinLimits, IsFaultOf};
+ghost use Rattle.condition_formula.specs.Limits.{IsSmallNet, IsWithinLimits, IsFaultOfNet};
 ghost use Rattle.condition_formula.specs.Lists.{upto};
 ghost use Rattle.std.specs.Prelude.{◌≡◌, ◌<◌, ◌≤◌, ◌+◌, ◌-◌, [], ◌==◌, if◌then◌else◌, true, length};
 ghost use Rattle.std.specs.Prelude.{map, take, OnOk, IfOk, IfErr};
@@ -54,7 +54,7 @@ pub fn encode(alloc: Global, net: &ConditionNet, bound: u32) -> Result<PackedEnc
     ensures formula { IfOk result (λ encoded. encoded.formula ≡ repair_formula net.now bound) }
     ensures tops { IfOk result (λ encoded. encoded.tops ≡ tops_of net.now bound) }
     ensures limits { OnOk result (IsWithinLimits net.now bound) }
-    ensures fault { IfErr result (IsFaultOf net.now bound) }
+    ensures fault { IfErr result (IsFaultOfNet net.now bound) }
 {
     let variables = variable_count(net, bound);
     if variables > VARIABLE_LIMIT {

@@ -1,6 +1,6 @@
 //! Clauses of blocked and through: closed sides.
 ghost use Rattle.condition_formula.specs.Clauses.{yes, no, denied};
-ghost use Rattle.condition_formula.specs.Conditions.{lists_of, ends_of, is_counted, counted};
+ghost use Rattle.condition_formula.specs.Conditions.{lists_of, ends_of, is_counted, counted_arcs};
 ghost use Rattle.condition_formula.specs.Formulas.{cell};
 ghost use Rattle.condition_formula.specs.Sides.{step_parts, side_parts, kept_off_parts};
 ghost use Rattle.condition_formula.specs.Writing.{Adds};
@@ -99,7 +99,7 @@ fn steps(
     class: u32,
 ) -> Result<(), Memory>
     ensures { OnOk result (Adds out.old out.new
-        (map (step_parts (cell reached.first reached.columns class) class) (counted q.now))) }
+        (map (step_parts (cell reached.first reached.columns class) class) (counted_arcs q.now))) }
 {
     for arc in q.arcs.slice() {
         counted_step(alloc, out, q.demand, reached, class, arc)?;

@@ -6,7 +6,7 @@ use Rattle.net_model.specs.declared.policies.Class.{Class}
 use Rattle.net_model.specs.declared.policies.PolicyKind.{PolicyKind}
 use Rattle.net_model.specs.declared.policies.PolicyKind.TheVariants.{Blocked, Through, Reach}
 use Rattle.net_model.specs.declared.rows.Network.{Network}
-use Rattle.net_model.specs.Packets.{IsOf}
+use Rattle.net_model.specs.Packets.{IsOfClass}
 use Rattle.net_model.specs.Routing.{Arc, FailureSet, DistanceMap, IsUsable, IsStable}
 use Rattle.net_model.specs.Forwarding.{Ends, Walk, Enters, Leaves, IsDelivered, IsStuckAt, IsStuck, source_router, target_router, failures}
 use Rattle.net_model.specs.Policies.{CrossesWaypoint, IsClear, Reaches, MeetsAs}
@@ -100,20 +100,20 @@ reach_for net copy p failed lost ends others alike m carries enters leaves kind 
 
 -- what holds of a class under a failure set holds of each packet of it
 pub each_packet : (net : Network) (ends : Ends) (class : Class) (kind : PolicyKind) (failed : FailureSet) → HoldsUnder net ends class kind failed →
-    (p : Packet) → IsOf class p → HoldsFor net ends p kind failed
+    (p : Packet) → IsOfClass class p → HoldsFor net ends p kind failed
 each_packet net ends class Blocked failed holds p of = λ d stable. holds d stable p of
 each_packet net ends class Through failed holds p of = λ d stable. holds d stable p of
 each_packet net ends class (Reach k) failed holds p of = λ d stable. holds d stable p of
 
 pub all_packets : (net : Network) (ends : Ends) (class : Class) (kind : PolicyKind) (failed : FailureSet) →
-    ((p : Packet) → IsOf class p → HoldsFor net ends p kind failed) → HoldsUnder net ends class kind failed
+    ((p : Packet) → IsOfClass class p → HoldsFor net ends p kind failed) → HoldsUnder net ends class kind failed
 all_packets net ends class Blocked failed each = λ d stable p of. each p of d stable
 all_packets net ends class Through failed each = λ d stable p of. each p of d stable
 all_packets net ends class (Reach k) failed each = λ d stable p of. each p of d stable
 
 -- a clear class is clear in the network too
 pub clear_there : (net copy : Network) (class : Class) (lost : FailureSet) (ends others : Ends) → AreAlike ends others → Mirrors net copy ends.to no_link lost →
-    ((p : Packet) → IsOf class p → Carries copy net p) → IsClear copy others class → IsClear net ends class
+    ((p : Packet) → IsOfClass class p → Carries copy net p) → IsClear copy others class → IsClear net ends class
 clear_there net copy class lost ends others alike m carries clear =
     let clear_to : IsClear copy (to_of others ends.to) class = subst (λ (x : Prefix). IsClear copy (to_of others x) class) (sym alike.to) clear in
     elim clear_to [

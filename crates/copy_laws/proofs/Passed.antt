@@ -8,7 +8,7 @@ use Rattle.net_model.specs.declared.policies.PolicyKind.{PolicyKind}
 use Rattle.net_model.specs.declared.policies.PolicyKind.TheVariants.{Blocked, Through, Reach}
 use Rattle.net_model.specs.declared.rows.LinkRow.{LinkRow}
 use Rattle.net_model.specs.declared.rows.Network.{Network}
-use Rattle.net_model.specs.Packets.{IsOf, subject}
+use Rattle.net_model.specs.Packets.{IsOfClass, subject}
 use Rattle.net_model.specs.Routing.{FailureSet}
 use Rattle.net_model.specs.Forwarding.{Ends, Enters, Leaves, failures}
 use Rattle.net_model.specs.Policies.{HoldsAs, MeetsAs, Meets}
@@ -127,7 +127,7 @@ spoken net copy links Blocked failed speaks = speaks
 spoken net copy links Through failed speaks = speaks
 spoken net copy links (Reach k) failed speaks = same_count net copy links failed k speaks
 
-under : (net copy : Network) → net.links ≡ copy.links → (policy : Policy) (meets : Meets copy policy) (p : Packet) → IsOf (subject policy) p →
+under : (net copy : Network) → net.links ≡ copy.links → (policy : Policy) (meets : Meets copy policy) (p : Packet) → IsOfClass (subject policy) p →
     (failed : FailureSet) → SpeaksOf net policy.kind failed → HoldsFor copy meets.ends p policy.kind failed
 under net copy links policy meets p of failed speaks =
     each_packet copy meets.ends (subject policy) policy.kind failed

@@ -6,7 +6,7 @@ use Rattle.arc_base.specs.declared.prefix.Prefix.{Prefix}
 use Rattle.net_model.specs.declared.lists.Packet.{Packet}
 use Rattle.net_model.specs.declared.policies.Class.{Class}
 use Rattle.net_model.specs.declared.rows.Network.{Network}
-use Rattle.net_model.specs.Packets.{IsOf}
+use Rattle.net_model.specs.Packets.{IsOfClass}
 use Rattle.net_model.specs.Routing.{Arc, FailureSet, DistanceMap, IsStable, tail_router}
 use Rattle.net_model.specs.Routing.{head_router}
 use Rattle.net_model.specs.Forwarding.{Ends, AreEnds, Attains, ArcPermits, Enters, Leaves, failures}
@@ -94,7 +94,7 @@ ReachIsSure =
     (failed : FailureSet) (d : DistanceMap) → failures net failed ≤ k →
     IsStable net ends.to (target_router ends) failed d →
     (sends : NextHops) → AgreesWhereKnown net ends.to failed d sends →
-    (p : Packet) → IsOf class p → IsSure net ends sends p
+    (p : Packet) → IsOfClass class p → IsSure net ends sends p
 
 -- if they stay away, a packet is delivered only over arcs over which the model delivers it
 abbrev pub DeliversAsModel : Type 0
@@ -111,7 +111,7 @@ BlockedStays =
     (net : Network) (ends : Ends) (class : Class) → IsBlocked net ends class →
     (failed : FailureSet) (d : DistanceMap) → IsStable net ends.to (target_router ends) failed d →
     (sends : NextHops) → AgreesWhereKnown net ends.to failed d sends → StayAway ends d sends →
-    (p : Packet) → IsOf class p → (arcs : List Arc) → IsDeliveredBy net ends sends p arcs → ⊥
+    (p : Packet) → IsOfClass class p → (arcs : List Arc) → IsDeliveredBy net ends sends p arcs → ⊥
 
 -- and where it goes through a waypoint in the model, the arcs over which a packet of it is
 -- delivered cross one
@@ -120,5 +120,5 @@ ThroughStays =
     (net : Network) (ends : Ends) (class : Class) → GoesThrough net ends class →
     (failed : FailureSet) (d : DistanceMap) → IsStable net ends.to (target_router ends) failed d →
     (sends : NextHops) → AgreesWhereKnown net ends.to failed d sends → StayAway ends d sends →
-    (p : Packet) → IsOf class p →
+    (p : Packet) → IsOfClass class p →
     (arcs : List Arc) → IsDeliveredBy net ends sends p arcs → CrossesWaypoint arcs

@@ -7,7 +7,7 @@ use Rattle.net_model.specs.declared.policies.Policy.{Policy}
 use Rattle.net_model.specs.declared.policies.PolicyKind.{PolicyKind}
 use Rattle.net_model.specs.declared.policies.PolicyKind.TheVariants.{Blocked, Through, Reach}
 use Rattle.net_model.specs.declared.rows.Network.{Network}
-use Rattle.net_model.specs.Packets.{IsOf, subject}
+use Rattle.net_model.specs.Packets.{IsOfClass, subject}
 use Rattle.net_model.specs.Routing.{Arc, FailureSet, DistanceMap, IsStable}
 use Rattle.net_model.specs.Forwarding.{Ends, AreEnds, failures, target_router}
 use Rattle.net_model.specs.Policies.{CrossesWaypoint, Meets}
@@ -61,7 +61,7 @@ AllKeepBarred =
     (real : RealNetwork) (between copy : Network) (down : FailureSet) →
     PermitsMoreReally real between → HasFewerLinks between copy down →
     (policy : Policy) → IsBarring policy.kind → Meets copy policy →
-    (x : RealPacket) → IsOf (subject policy) x.seen → MeetsBy (real x) policy x.seen StayAway
+    (x : RealPacket) → IsOfClass (subject policy) x.seen → MeetsBy (real x) policy x.seen StayAway
 
 -- and each packet as it is of a class that reaches its target is sure to be delivered, whatever
 -- routers do with what they have no modelled route for
@@ -71,5 +71,5 @@ AllCostReach =
     PermitsFewerReally real between → HasFewerLinks between copy down →
     (L : ℕ) → failures copy down ≤ L → (class : Class) (k : ℕ) →
     Meets copy (reach_of class (k + L)) →
-    (x : RealPacket) → IsOf class x.seen →
+    (x : RealPacket) → IsOfClass class x.seen →
     MeetsBy (real x) (reach_of class k) x.seen (λ ends d sends. Unit {0})

@@ -184,7 +184,7 @@ module _ (net : Network) (valid : IsValid net) where
 prefix_itself : (p : Prefix) → is_same p p ≡ true
 prefix_itself p = and_from _ _ (eq-eqb p.addr p.addr refl) (eq-eqb p.len p.len refl)
 
-class_itself : (c : Class) → classes.is_same c c ≡ true
+class_itself : (c : Class) → classes.is_same_class c c ≡ true
 class_itself c =
     let itself = λ (n : ℕ). eq-eqb n n refl in
     let from = and_from _ _ (itself c.from.addr) (itself c.from.len) in
@@ -198,5 +198,5 @@ all_different net doc list valid are =
     subst (λ (l : List Prefix). AreDistinct l) (sym are.destinations_are.once) (once_apart is_same prefix_itself are.destinations_are.hosts [] (AllPairs-none (λ x y. x ≢ y))) in
     let classes_apart : AreDistinct are.classes =
     subst (λ (l : List Class). AreDistinct l) (sym are.classes_are.once)
-    (once_apart classes.is_same class_itself (flat_map (λ l. l) are.classes_are.lists) [] (AllPairs-none (λ x y. x ≢ y))) in
+    (once_apart classes.is_same_class class_itself (flat_map (λ l. l) are.classes_are.lists) [] (AllPairs-none (λ x y. x ≢ y))) in
     subst (λ (l : List Edit). AreDistinct l) (sym are.all) (edits_different net valid are.destinations are.classes destinations_apart classes_apart)

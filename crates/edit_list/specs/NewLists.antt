@@ -18,14 +18,14 @@ abbrev pub new_name : ℕ → List ℕ
 new_name n = codes "ARC-" ++ decimal n
 
 -- whether the name is one of these
-abbrev pub is_among : List (List ℕ) → List ℕ → Bool
-is_among names name = list_any (bytes_eq name) names
+abbrev pub is_name_among : List (List ℕ) → List ℕ → Bool
+is_name_among names name = list_any (bytes_eq name) names
 
 -- the first `count` of the names ARC-1, ARC-2 and so on that are none of these; they are found
 -- among the first names, as many as these and the counted ones together
 abbrev pub free_names : List (List ℕ) → ℕ → List (List ℕ)
 free_names names count =
-    take count (filter (λ name. not (is_among names name))
+    take count (filter (λ name. not (is_name_among names name))
     (map new_name (range_with_len 1 (length names + count))))
 
 -- the new route list of a session, if the edits make one, with its router

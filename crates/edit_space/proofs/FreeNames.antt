@@ -16,7 +16,7 @@ use Rattle.std.proofs.lemmas.Map.Made.{length-le_from_is_member, IsDistinct-from
 use Rattle.std.proofs.lemmas.Slice.Eq.{bytes_eq-Decides}
 use Rattle.arc_base.proofs.Items.{from_filter, from_map}
 use Rattle.arc_base.specs.NameForms.{IsName, is_name_byte}
-use Rattle.edit_list.specs.NewLists.{new_name, is_among, free_names}
+use Rattle.edit_list.specs.NewLists.{new_name, is_name_among, free_names}
 use Rattle.edit_space.proofs.NameSets.{is_among_them, among_them}
 
 -- names with different numbers differ
@@ -36,11 +36,12 @@ candidates_apart count small i j d l m e =
     let same : 1 + i ≡ 1 + j = name_differs (1 + i) (1 + j) (omega (arith, first, small)) (omega (arith, within, small)) (sym (candidate_at count i d first) ∙ e ∙ candidate_at count j d within) in
     omega (arith, same, l)
 
-few_taken : (names : List (List ℕ)) (count : ℕ) → count < 2 ^ 63 → length (filter (is_among names) (candidates count)) ≤ length names
+few_taken : (names : List (List ℕ)) (count : ℕ) → count < 2 ^ 63 → length (filter (is_name_among names) (candidates count)) ≤ length names
 few_taken names count small =
-    length-le_from_is_member nat_list_eq_equiv (filter (is_among names) (candidates count)) names
-    (IsDistinct-from_AllPairs bytes_eq-Decides (filter (is_among names) (candidates count)) (AllPairs-filter (λ x y. x ≢ y) (is_among names) (candidates count) (candidates_apart count small)))
-    (λ q h. (from_filter (is_among names) (candidates count) q (is_among_them (filter (is_among names) (candidates count)) q h)).1)
+    length-le_from_is_member nat_list_eq_equiv (filter (is_name_among names) (candidates count)) names
+    (IsDistinct-from_AllPairs bytes_eq-Decides (filter (is_name_among names) (candidates count))
+    (AllPairs-filter (λ x y. x ≢ y) (is_name_among names) (candidates count) (candidates_apart count small)))
+    (λ q h. (from_filter (is_name_among names) (candidates count) q (is_among_them (filter (is_name_among names) (candidates count)) q h)).1)
 
 not_not : (b : Bool) → b ≡ not (not b)
 not_not true = refl
@@ -49,9 +50,9 @@ not_not false = refl
 -- so many free names are found
 pub free_names_found : (names : List (List ℕ)) (count : ℕ) → length names + count < 2 ^ 63 → length (free_names names count) ≡ count
 free_names_found names count small =
-    let free : List (List ℕ) = filter (λ name. not (is_among names name)) (candidates (length names + count)) in
-    let both : length free + length (filter (is_among names) (candidates (length names + count))) ≡ length (candidates (length names + count)) =
-    length-filter_both (λ name. not (is_among names name)) (is_among names) (λ x. not_not (is_among names x)) (candidates (length names + count)) in
+    let free : List (List ℕ) = filter (λ name. not (is_name_among names name)) (candidates (length names + count)) in
+    let both : length free + length (filter (is_name_among names) (candidates (length names + count))) ≡ length (candidates (length names + count)) =
+    length-filter_both (λ name. not (is_name_among names name)) (is_name_among names) (λ x. not_not (is_name_among names x)) (candidates (length names + count)) in
     let enough : count ≤ length free = omega (arith, both, few_taken names (length names + count) small, length-map-range_with_len new_name 1 (length names + count)) in
     length-take count free ∙ omega (arith, enough)
 
@@ -104,9 +105,9 @@ in_take n xs x h = subst (λ (l : List (List ℕ)). Contains l x) (take-append-d
 -- a free name is none of the names, and has the form of a name
 pub free_name_is_new : (names : List (List ℕ)) (count : ℕ) (name : List ℕ) → length names + count < 2 ^ 59 → Contains (free_names names count) name → (¬ Contains names name) × IsName name
 free_name_is_new names count name small there =
-    let free : List ℕ → Bool = λ n. not (is_among names n) in
+    let free : List ℕ → Bool = λ n. not (is_name_among names n) in
     let picked = from_filter free (candidates (length names + count)) name (in_take count (filter free (candidates (length names + count))) name there) in
-    (λ h. lacks (is_among names name) (among_them names name h) picked.1, candidate_is_name (length names + count) name small picked.0)
+    (λ h. lacks (is_name_among names name) (among_them names name h) picked.1, candidate_is_name (length names + count) name small picked.0)
   where
     lacks : (b : Bool) → b ≡ true → IsTrue (not b) → ⊥
     lacks true e h = false≢true h
@@ -115,8 +116,9 @@ free_name_is_new names count name small there =
 -- free names differ
 pub free_names_apart : (names : List (List ℕ)) (count : ℕ) → length names + count < 2 ^ 63 → AllPairs (λ x y. x ≢ y) (free_names names count)
 free_names_apart names count small i j d l m =
-    let free : List (List ℕ) = filter (λ name. not (is_among names name)) (candidates (length names + count)) in
-    let apart : AllPairs (λ x y. x ≢ y) free = AllPairs-filter (λ x y. x ≢ y) (λ name. not (is_among names name)) (candidates (length names + count)) (candidates_apart (length names + count) small) in
+    let free : List (List ℕ) = filter (λ name. not (is_name_among names name)) (candidates (length names + count)) in
+    let apart : AllPairs (λ x y. x ≢ y) free =
+    AllPairs-filter (λ x y. x ≢ y) (λ name. not (is_name_among names name)) (candidates (length names + count)) (candidates_apart (length names + count) small) in
     let within : j < length free = omega (arith, m, length-take count free) in
     let counted : j < count = omega (arith, m, length-take count free) in
     subst (λ (y : List ℕ). get_or (take count free) i d ≢ y) (sym (get_or-take count free j d counted))
@@ -125,17 +127,17 @@ free_names_apart names count small i j d l m =
 -- one candidate more: it is taken, or it is free
 module _ (names : List (List ℕ)) (xs : List (List ℕ)) (i : ℕ) (name : List ℕ) (within : i < length xs) (is : name ≡ get_or xs i name) where
   abbrev free : List ℕ → Bool
-  free n = not (is_among names n)
+  free n = not (is_name_among names n)
 
-  candidate : (b : Bool) → is_among names name ≡ b → filter free (take (i + 1) xs) ≡ filter free (take i xs) ++ cond (not b) (name ∷ []) []
+  candidate : (b : Bool) → is_name_among names name ≡ b → filter free (take (i + 1) xs) ≡ filter free (take i xs) ++ cond (not b) (name ∷ []) []
   candidate b e =
       filter_more free xs i name within ∙ ap (λ x. filter free (take i xs) ++ cond (free x) (x ∷ []) []) (sym is) ∙
       ap (λ t. filter free (take i xs) ++ cond (not t) (name ∷ []) []) e
 
-  pub candidate_taken : (now : List (List ℕ)) → is_among names name ≡ true → now ≡ filter free (take i xs) → now ≡ filter free (take (i + 1) xs)
+  pub candidate_taken : (now : List (List ℕ)) → is_name_among names name ≡ true → now ≡ filter free (take i xs) → now ≡ filter free (take (i + 1) xs)
   candidate_taken now e was = was ∙ sym (append-nil (filter free (take i xs))) ∙ sym (candidate true e)
 
-  pub candidate_free : (now next : List (List ℕ)) → is_among names name ≡ false → now ≡ filter free (take i xs) → next ≡ now ++ name ∷ [] → next ≡ filter free (take (i + 1) xs)
+  pub candidate_free : (now next : List (List ℕ)) → is_name_among names name ≡ false → now ≡ filter free (take i xs) → next ≡ now ++ name ∷ [] → next ≡ filter free (take (i + 1) xs)
   candidate_free now next e was grown = grown ∙ ap (λ l. l ++ name ∷ []) was ∙ sym (candidate false e)
 
 -- all candidates were tried

@@ -18,7 +18,7 @@ use Rattle.std.proofs.lemmas.Map.Lookups.{exact_bytes}
 use Rattle.std.proofs.lemmas.Slice.Eq.{bytes_eq-Decides}
 use denote.Ref.{Bor}
 use Rattle.arc_base.proofs.Items.{Contains-head, Contains-tail, Contains-cases, Contains-none, AllPairs-map}
-use Rattle.edit_list.specs.NewLists.{new_name, is_among}
+use Rattle.edit_list.specs.NewLists.{new_name, is_name_among}
 use Rattle.arc_base.specs.NameForms.{IsNameBefore, texts_at}
 use Rattle.edit_space.specs.Working.{AreJoined}
 
@@ -176,21 +176,21 @@ finds_name (x ∷ xs) k h = elim (Contains-cases x.now k.now (texts_at xs) h) [
     always true = refl
     always false = refl
 
-among : (names : List (List ℕ)) (n : List ℕ) → is_among names n ≡ true → Contains names n
+among : (names : List (List ℕ)) (n : List ℕ) → is_name_among names n ≡ true → Contains names n
 among [] n e = absurd (false≢true e)
 among (x ∷ xs) n e = by (bytes_eq n x) refl (λ rest. among xs n rest) e
   where
-    by : (b : Bool) → bytes_eq n x ≡ b → (is_among xs n ≡ true → Contains xs n) → is_among (x ∷ xs) n ≡ true → Contains (x ∷ xs) n
+    by : (b : Bool) → bytes_eq n x ≡ b → (is_name_among xs n ≡ true → Contains xs n) → is_name_among (x ∷ xs) n ≡ true → Contains (x ∷ xs) n
     by true f later e = subst (λ (m : List ℕ). Contains (x ∷ xs) m) (sym ((bytes_eq-Decides n x).0 f)) (Contains-head x xs)
-    by false f later e = Contains-tail x n xs (later (sym (ap (λ b. b || is_among xs n) f) ∙ e))
+    by false f later e = Contains-tail x n xs (later (sym (ap (λ b. b || is_name_among xs n) f) ∙ e))
 
-pub is_among_them : (names : List (List ℕ)) (n : List ℕ) → is_among names n ≡ true → Contains names n
+pub is_among_them : (names : List (List ℕ)) (n : List ℕ) → is_name_among names n ≡ true → Contains names n
 is_among_them names n e = among names n e
 
-pub among_them : (names : List (List ℕ)) (n : List ℕ) → Contains names n → is_among names n ≡ true
+pub among_them : (names : List (List ℕ)) (n : List ℕ) → Contains names n → is_name_among names n ≡ true
 among_them [] n h = absurd (Contains-none n h)
 among_them (x ∷ xs) n h = elim (Contains-cases x n xs h) [
-  | inl same ↦ ap (λ b. b || is_among xs n) ((bytes_eq-Decides n x).1 (sym same))
+  | inl same ↦ ap (λ b. b || is_name_among xs n) ((bytes_eq-Decides n x).1 (sym same))
   | inr later ↦ ap (λ b. bytes_eq n x || b) (among_them xs n later) ∙ always (bytes_eq n x)
 ]
   where
@@ -200,10 +200,10 @@ among_them (x ∷ xs) n h = elim (Contains-cases x n xs h) [
 
 -- the set answers whether the name is one of the names
 pub taken_is_among : (ks : List (Bor (List ℕ))) (names : List (List ℕ)) (k : Bor (List ℕ)) → ((n : List ℕ) → Contains (texts_at ks) n ↔ Contains names n) →
-    list_any (is_at (text_order k)) ks ≡ is_among names k.now
-taken_is_among ks names k same = by (list_any (is_at (text_order k)) ks) refl (is_among names k.now) refl
+    list_any (is_at (text_order k)) ks ≡ is_name_among names k.now
+taken_is_among ks names k same = by (list_any (is_at (text_order k)) ks) refl (is_name_among names k.now) refl
   where
-    by : (b : Bool) → list_any (is_at (text_order k)) ks ≡ b → (c : Bool) → is_among names k.now ≡ c → list_any (is_at (text_order k)) ks ≡ is_among names k.now
+    by : (b : Bool) → list_any (is_at (text_order k)) ks ≡ b → (c : Bool) → is_name_among names k.now ≡ c → list_any (is_at (text_order k)) ks ≡ is_name_among names k.now
     by true e c f = e ∙ sym (among_them names k.now ((same k.now).0 (found_name ks k e)))
     by false e true f = absurd (false≢true (sym e ∙ finds_name ks k ((same k.now).1 (among names k.now f))))
     by false e false f = e ∙ sym f

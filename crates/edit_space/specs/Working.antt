@@ -120,7 +120,8 @@ new_key named face = record { router = named.router; name = named.name; site = N
 abbrev pub new_key_by : (NewList → Option Face) → Named → Option Keyed
 new_key_by face named = option_map (new_key named) (face named.list)
 
--- all lists of a kind after the edits, before they are sorted: those that there were, and the new ones
+-- all lists of a kind after the edits, before they are sorted: those that there were, and the new
+-- ones
 abbrev pub list_keys : {L : Type 0} → List L → (L → Key) → (NewList → Option Face) → List Named →
     List Keyed
 list_keys lists key face named =

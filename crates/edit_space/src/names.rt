@@ -1,6 +1,6 @@
 //! The names of new lists.
 ghost use Rattle.arc_base.specs.NameForms.{IsNameBefore, texts_at};
-ghost use Rattle.edit_list.specs.NewLists.{new_name, is_among, free_names};
+ghost use Rattle.edit_list.specs.NewLists.{new_name, is_name_among, free_names};
 ghost use Rattle.edit_space.specs.Working.{AreJoined};
 ghost use Rattle.std.specs.List.{range_with_len};
 ghost use Rattle.std.specs.Prelude.{◌≡◌, ◌<◌, ◌^◌, AllPairs, IfOk, OnOk, length, map, take, filter};
@@ -52,7 +52,7 @@ fn first_free<'a>(
     count: usize,
 ) -> Result<List<Name>, Memory>
     ensures { IfOk result (λ free.
-        free ≡ take count (filter (λ name. not (is_among names.now name)) candidates.now)) }
+        free ≡ take count (filter (λ name. not (is_name_among names.now name)) candidates.now)) }
 {
     let mut taken = BTreeSet::new(alloc);
     add_names(&mut taken, names)?;

@@ -12,7 +12,7 @@ use Rattle.ios_config.specs.declared.settings.ListText.{ListText}
 use Rattle.net_rules.specs.Limits.{long_list, RefusesEntries}
 use Rattle.net_build.specs.Networks.{IsBuilt}
 use Rattle.net_build.specs.Order.{tries, AreClear, Refuses, RefusesWithin}
-use Rattle.net_rules.specs.Reasons.{IsClear}
+use Rattle.net_rules.specs.Reasons.{NoRefusal}
 use Rattle.settings_edit_laws.proofs.Room.{room_within}
 use Rattle.patch_laws.proofs.EditedFiles.{edited_files_have_the_network}
 use Rattle.file_copies.specs.Changes.{PatchesHaveTheNetwork}
@@ -33,17 +33,17 @@ long_found (y ∷ lists) x found none =
     one_by_both (nat_lt 16384 (length y.entries)) (nat_lt 2048 (length y.entries)) y x (find (λ (l : ListText). nat_lt 16384 (length l.entries)) lists)
     (find (λ (l : ListText). nat_lt 2048 (length l.entries)) lists) (longer y) (long_found lists x) found none
 
-module _ (configs : List Config) (clear : IsClear (RefusesEntries 2048 configs)) where
+module _ (configs : List Config) (clear : NoRefusal (RefusesEntries 2048 configs)) where
   long_refused : (r : Refusal) (bad : RefusesEntries 16384 configs r) (o : Option ListText) → long_list 2048 bad.config ≡ o → ⊥
   long_refused r bad None none = long_found bad.config.lists bad.list bad.first none
   long_refused r bad (Some list) first =
       clear (record { file = bad.place + 1; number = 0; kind = kinds.Limit limits.Entries (length list.entries) })
       (record { place = bad.place; config = bad.config; at_place = bad.at_place; list = list; first = first; told = refl })
 
-  short_lists : IsClear (RefusesEntries 16384 configs)
+  short_lists : NoRefusal (RefusesEntries 16384 configs)
   short_lists r bad = long_refused r bad (long_list 2048 bad.config) refl
 
-pub no_long_list : (doc : Document) (configs : List Config) → AreClear (RefusesWithin [] 2048 doc configs) tries → IsClear (RefusesEntries 2048 configs)
+pub no_long_list : (doc : Document) (configs : List Config) → AreClear (RefusesWithin [] 2048 doc configs) tries → NoRefusal (RefusesEntries 2048 configs)
 no_long_list doc configs clear = clear.1.1.1.1.1.1.1.1.1.1.1.1.1.0
 
 pub still_clear : (doc : Document) (configs : List Config) → AreClear (RefusesWithin [] 2048 doc configs) tries → AreClear (Refuses doc configs) tries

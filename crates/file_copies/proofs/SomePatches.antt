@@ -8,7 +8,7 @@ use Rattle.ios_lines.specs.declared.line.Lines.{Lines}
 use Rattle.ios_lines.specs.Lines.{AreLinesOf}
 use Rattle.net_rules.proofs.Distinct.{item_at}
 use Rattle.net_build.specs.declared.built.Places.{Places}
-use Rattle.net_build.specs.Networks.{Says}
+use Rattle.net_build.specs.Networks.{HasSettings}
 use Rattle.net_build.specs.Places.{places_of}
 use Rattle.arc_base.specs.Numbered.{EachRow}
 use Rattle.line_patcher.specs.Patches.{patched_file, IsPatched}
@@ -34,7 +34,7 @@ patches_are_there down most doc built olds chosen is =
     let configs = is.network.configs in
     rows_are_there olds (IsPatched built chosen) (λ router text low.
     let lines = item_at built.lines router (omega (arith, low, AllZip-long AreLinesOf olds built.lines is.lines)) in
-    let own = item_at built.places router (omega (arith, low, AllZip-long Says olds configs is.network.said, ap length is.places, length-map configs places_of)) in
+    let own = item_at built.places router (omega (arith, low, AllZip-long HasSettings olds configs is.network.said, ap length is.places, length-map configs places_of)) in
     let new : List ℕ = patched_file built chosen router text lines.0 own.0 in (
       new,
       subst (λ (o : Option Lines). IsSomeAnd o (λ ls. IsSomeAnd (slice_get built.places router) (λ p. new ≡ patched_file built chosen router text ls p))) (sym lines.1)

@@ -13,8 +13,8 @@ use Rattle.cnf_types.specs.declared.clauses.Formula.{Formula}
 use Rattle.cnf_types.specs.declared.faults.CnfFault.TheVariants.{BadHeader}
 use Rattle.cnf_types.specs.declared.header.Header.{Header}
 use Rattle.cnf_types.specs.declared.literal.Lit.{Lit}
-use Rattle.cnf_types.specs.Dimacs.{after_header, closed, content, count, counted, ends_closed, first_bad, from_header, header, is_bad}
-use Rattle.cnf_types.specs.Dimacs.{is_comment, is_zero, judged, line_numbers, line_words, literal_of, numbers, pieces, reading, sized}
+use Rattle.cnf_types.specs.Dimacs.{after_header, closed, content, count, counted, ends_closed, first_bad, from_header, header, is_bad_word}
+use Rattle.cnf_types.specs.Dimacs.{is_comment, is_zero, judged, line_numbers, cnf_line_words, literal_of, numbers, pieces, reading, sized}
 use Rattle.cnf_types.specs.Literals.{is_positive, variable}
 use Rattle.arc_base.specs.WordNumbers.{natural}
 use Rattle.arc_base.specs.TextLines.{lines, without_return}
@@ -71,7 +71,7 @@ module _ (vars : ℕ) (small : vars < 2 ^ 63) where
   no-bad n (c ∷ cs) h =
       let here = All-head (λ c. All (IsOfVariables vars) c.lits) c cs h in
       let line = clause_words c in
-      let good : list_any (is_bad vars) (words line) ≡ false = ap (list_any (is_bad vars)) (clause-read c here) ∙ literals-good vars small c.lits here in
+      let good : list_any (is_bad_word vars) (words line) ≡ false = ap (list_any (is_bad_word vars)) (clause-read c here) ∙ literals-good vars small c.lits here in
       sym (bad_later vars n line line (map clause_words cs) (line ∷ map clause_words cs) refl (no-comment c.lits here)
       (sym (no-return line (some-bytes (before_spaces (map literal_text c.lits))) (in-line c here))) good)
       ∙ no-bad (n + 1) cs (All-tail (λ c. All (IsOfVariables vars) c.lits) c cs h)
@@ -149,7 +149,7 @@ module _ (vars clauses : ℕ) (few : vars ≤ 16777216) (bounded : clauses ≤ 9
       let ws = two-words in
       ap (λ r. codes "p" ∷ codes "cnf" ∷ r) (first-word (decimal vars) (decimal clauses) ws.0 ∙ ap (λ r. decimal vars ∷ r) (last-word (decimal clauses) ws.1.0))
 
-  head-read : header (line_words (head vars clauses)) ≡ Some (record { vars = vars; clauses = clauses })
+  head-read : header (cnf_line_words (head vars clauses)) ≡ Some (record { vars = vars; clauses = clauses })
   head-read =
       let bare : without_return (head vars clauses) ≡ head vars clauses = no-return (head vars clauses) (omega arith) head-in-line in
       ap (λ l. header (words l)) bare ∙ ap header head-words

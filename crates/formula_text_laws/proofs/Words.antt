@@ -9,7 +9,7 @@ use Rattle.std.proofs.lemmas.List.Splits.{slice_split_at, slice_split_none}
 use Rattle.std.proofs.lemmas.Option.{none-some}
 use Rattle.std.proofs.lemmas.Str.Parse.{digit_at}
 use Rattle.cnf_types.specs.declared.literal.Lit.{Lit}
-use Rattle.cnf_types.specs.Dimacs.{is_bad, is_zero, line_numbers, literal_of}
+use Rattle.cnf_types.specs.Dimacs.{is_bad_word, is_zero, line_numbers, literal_of}
 use Rattle.cnf_types.specs.Literals.{literal, is_positive, variable}
 use Rattle.arc_base.specs.WordNumbers.{minus, natural, number}
 use Rattle.arc_base.specs.TextLines.{without_return}
@@ -104,7 +104,7 @@ module _ (vars : ℕ) (small : vars < 2 ^ 63) where
       let here = All-head (IsOfVariables vars) l lits h in
       (plain_word (literal_text l) (literal-word (is_positive l) (variable l) (omega (arith, here.1))), literals-words lits (All-tail (IsOfVariables vars) l lits h))
 
-  pub literals-good : (lits : List Lit) → All (IsOfVariables vars) lits → list_any (is_bad vars) (map literal_text lits ++ (48 ∷ []) ∷ []) ≡ false
+  pub literals-good : (lits : List Lit) → All (IsOfVariables vars) lits → list_any (is_bad_word vars) (map literal_text lits ++ (48 ∷ []) ∷ []) ≡ false
   literals-good [] h = ap (λ o. is_none o || false) (zero-number vars)
   literals-good (l ∷ lits) h =
       let here = All-head (IsOfVariables vars) l lits h in

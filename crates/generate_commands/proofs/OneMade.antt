@@ -9,10 +9,10 @@ use Rattle.net_model.specs.declared.policies.Policy.{Policy}
 use Rattle.net_model.specs.declared.policies.PolicyKind.{PolicyKind}
 use Rattle.net_model.specs.declared.policies.Weights.{Weights}
 use Rattle.net_model.specs.declared.services.Service.{Service}
-use Rattle.net_gen.specs.Generated.{Asked, Asks, asked, IsGenerated, IsHostNetwork}
+use Rattle.net_gen.specs.Generated.{Asked, Asks, asked, IsGenerated, IsGeneratedHostNetwork}
 use Rattle.net_gen.specs.declared.generating.Generated.{Generated}
 
-one_host : (router : ℕ) (p q : Prefix) → IsHostNetwork router p → IsHostNetwork router q → p ≡ q
+one_host : (router : ℕ) (p q : Prefix) → IsGeneratedHostNetwork router p → IsGeneratedHostNetwork router q → p ≡ q
 one_host router p q is are = same_prefix p q (is.addr ∙ sym are.addr) (is.len ∙ sym are.len)
 
 same_policy : (p q : Policy) → p.kind ≡ q.kind → p.from ≡ q.from → p.to ≡ q.to → p.service ≡ q.service → p ≡ q

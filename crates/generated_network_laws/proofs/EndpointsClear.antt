@@ -19,14 +19,14 @@ use Rattle.net_model.specs.declared.rows.Protocol.TheVariants.{Ospf}
 use Rattle.net_model.specs.Forwarding.{IsHostOf}
 use Rattle.net_rules.specs.Addressing.{RefusesEndpoint}
 use Rattle.net_rules.specs.Lists.{packet_list_key}
-use Rattle.net_rules.specs.Reasons.{IsClear}
+use Rattle.net_rules.specs.Reasons.{NoRefusal}
 use Rattle.net_rules.specs.Rows.{IsFaceRow, AreRows, IsSubnet, host_address_of}
 use Rattle.net_rules.specs.Settings.{IsPrefixAt}
 use Rattle.net_rules.specs.Sites.{Site, sites, full_name, ends_of}
 use Rattle.net_rules.proofs.Distinct.{at_Contains, Contains-at}
 use Rattle.net_gen.specs.Plans.{numbers, link_count, a_router, b_router, port}
 use Rattle.net_gen.specs.RouterFiles.{host_name, face_name, address}
-use Rattle.net_gen.specs.Generated.{link_text, IsHostNetwork, Asked, asked, asked_around, Asks}
+use Rattle.net_gen.specs.Generated.{link_text, IsGeneratedHostNetwork, Asked, asked, asked_around, Asks}
 use Rattle.generated_network_laws.proofs.Faces.{site_at, has-site}
 use Rattle.generated_network_laws.proofs.FilesClear.{protocol-is}
 use Rattle.arc_base.proofs.Zips.{AllZip-left, AllZip-right}
@@ -107,7 +107,7 @@ host-place n doc net router rows some few links low high =
       host = subst (λ (p : Protocol). IsSubnet (host_address_of p (host_face router)) row.0.host) ospf subnet;
     }
 
-lies : (router : ℕ) (p : Prefix) (o : Option Prefix) → IsHostNetwork router p → IsSomeAnd o (IsPrefixAt (address router 0 1) 24) → IsSomeAnd o (IsInside p)
+lies : (router : ℕ) (p : Prefix) (o : Option Prefix) → IsGeneratedHostNetwork router p → IsSomeAnd o (IsPrefixAt (address router 0 1) 24) → IsSomeAnd o (IsInside p)
 lies router p None is host = host
 lies router p (Some q) is host = λ a in-p.
     let facts = prefix-facts (address router 0 1) 24 q host in
@@ -118,10 +118,10 @@ lies router p (Some q) is host = λ a in-p.
     let inside : (block_of 24 a == block_of 24 q.addr) ≡ true = eq-eqb (a / 256) (q.addr / 256) (omega arith) in
     subst (λ l. (block_of l a == block_of l q.addr) ≡ true) (sym host.0) inside
 
-host-of : (n : ℕ) (net : Network) (router : ℕ) (p : Prefix) (h : HostPlace n net router) → IsHostNetwork router p → IsHostOf net p h.place
+host-of : (n : ℕ) (net : Network) (router : ℕ) (p : Prefix) (h : HostPlace n net router) → IsGeneratedHostNetwork router p → IsHostOf net p h.place
 host-of n net router p h is = record { face = h.row; at_place = h.at_row; lies = lies router p h.row.host is h.host }
 
-pub endpoint-clear : (n : ℕ) (doc : Document) → 6 ≤ n → n ≤ 40 → doc.links ≡ all_links n → AllZip Asks (asked n) doc.policies → IsClear (RefusesEndpoint doc (all_settings n))
+pub endpoint-clear : (n : ℕ) (doc : Document) → 6 ≤ n → n ≤ 40 → doc.links ≡ all_links n → AllZip Asks (asked n) doc.policies → NoRefusal (RefusesEndpoint doc (all_settings n))
 endpoint-clear n doc some few links policies r refused =
     let bad = refused.refuses in
     let net = refused.net in

@@ -12,7 +12,7 @@ use Rattle.net_model.specs.declared.policies.Policy.{Policy}
 use Rattle.net_model.specs.declared.rows.Network.{Network}
 use Rattle.net_model.specs.declared.services.Service.{Service}
 use Rattle.net_model.specs.Services.{serves, Serves, whole_service}
-use Rattle.traffic_classes.specs.AllClasses.{is_same, with_class, each_once, AreAllClasses, FirstHaveMore}
+use Rattle.traffic_classes.specs.AllClasses.{is_same_class, with_class, each_once, AreAllClasses, FirstHaveMore}
 use Rattle.traffic_classes.specs.Classes.{source_marks, destination_marks, service_marks, marks_of, told, AreClasses}
 use Rattle.traffic_classes.specs.Leaves.{IsSplit, AreLeaves}
 use Rattle.traffic_classes.specs.ServiceLeaves.{IsCut, IsServiceLeaf, AreServiceLeaves}
@@ -102,7 +102,7 @@ one-class net policies p classes none even there are =
     omega arith
 
 few-with : (classes : List Class) (class : Class) → length (with_class classes class) ≤ length classes + 1
-few-with classes class = by (list_any (is_same class) classes)
+few-with classes class = by (list_any (is_same_class class) classes)
   where
     by : (b : Bool) → length (cond b classes (classes ++ class ∷ [])) ≤ length classes + 1
     by true = omega arith

@@ -12,7 +12,7 @@ use Rattle.net_model.specs.declared.rows.Network.{Network}
 use Rattle.net_model.specs.declared.rows.SessionRow.{SessionRow}
 use Rattle.arc_base.specs.declared.place.Face.{Face}
 use Rattle.net_rules.specs.Lists.{packet_list_key}
-use Rattle.net_build.specs.Networks.{Says}
+use Rattle.net_build.specs.Networks.{HasSettings}
 use Rattle.net_rules.specs.Rows.{IsFaceRow, AreRows}
 use Rattle.net_rules.specs.Sites.{sites_of, sites, ends_of}
 use Rattle.net_rules.proofs.Distinct.{at_Contains}
@@ -150,7 +150,7 @@ few-of-all n most generated net g is =
     let plan = have-plan n most generated net g is in
     let policies : length doc.policies ≡ n + 1 = have-policies n generated g in
     let evens = even doc n g.is.doc.policies in
-    let said = subst (λ files. AllZip Says files is.configs) g.is.files is.said in
+    let said = subst (λ files. AllZip HasSettings files is.configs) g.is.files is.said in
     let rows : AreRows doc (all_settings n) net = subst (λ cs. AreRows doc cs net) (files-say n is.configs few said) is.rows in
     let links : length net.links ≤ 60 = let count = count-few n few in let same = plan.links in omega arith in
     let classes : (classes : List Class) → AreAllClasses net doc.policies doc.policies classes → length classes ≤ n + 1 =

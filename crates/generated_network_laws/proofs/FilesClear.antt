@@ -16,7 +16,7 @@ use Rattle.ios_config.specs.declared.settings.Given.{Given}
 use Rattle.net_rules.specs.Limits.{RefusesInterfaces, RefusesEntries, long_list}
 use Rattle.net_rules.specs.Linking.{RefusesDownLinks, HasTypeAt, RefusesAdjacencyForm}
 use Rattle.net_rules.specs.Peers.{RefusesNeighbor, RefusesNetwork, NamesOther, IsKnown, TellsUnconnected}
-use Rattle.net_rules.specs.Reasons.{IsClear}
+use Rattle.net_rules.specs.Reasons.{NoRefusal}
 use Rattle.net_rules.specs.Routers.{NamesRouter, HasNoOwnName, RefusesHostname, protocol_of, NamesOtherProcess, RunsOther, MixesProcesses, HasNoOwnProcess}
 use Rattle.net_rules.specs.Routers.{RefusesProtocol, face_area, areas_of, IsOther, NamesOtherArea, RefusesTwoAreas, Repeats, as_of, RefusesSameAs}
 use Rattle.net_rules.specs.Linking.{router_id_of}
@@ -67,7 +67,7 @@ earlier n place config low there =
     let r = items.from_map (settings_of n) (numbers place) config front in
     (r.0, (in-range 1 place r.0 r.1).1, r.2)
 
-pub hostname-clear : (n : ℕ) → n ≤ 40 → IsClear (RefusesHostname (all_settings n))
+pub hostname-clear : (n : ℕ) → n ≤ 40 → NoRefusal (RefusesHostname (all_settings n))
 hostname-clear n few r refused =
     let place = refused.place in
     let at = mapped-at (settings_of n) 1 n place refused.item refused.at_place in
@@ -85,7 +85,7 @@ pub protocol-is : (n : ℕ) → 1 ≤ n → protocol_of (all_settings n) ≡ Osp
 protocol-is zero some = absurd (omega arith)
 protocol-is (suc n) some = refl
 
-pub protocol-clear : (n : ℕ) → 1 ≤ n → IsClear (RefusesProtocol (all_settings n))
+pub protocol-clear : (n : ℕ) → 1 ≤ n → NoRefusal (RefusesProtocol (all_settings n))
 protocol-clear n some r refused =
     let place = refused.place in
     let at = mapped-at (settings_of n) 1 n place refused.item refused.at_place in
@@ -118,7 +118,7 @@ all-zero n router g there =
       | inr later ↦ absurd (items.Contains-none g later)
     ]
 
-pub areas-clear : (n : ℕ) → IsClear (RefusesTwoAreas (all_settings n))
+pub areas-clear : (n : ℕ) → NoRefusal (RefusesTwoAreas (all_settings n))
 areas-clear n r refused =
     let at = mapped-at (settings_of n) 1 n refused.place refused.item refused.at_place in
     let offends : NamesOtherArea (all_settings n) (settings_of n (1 + refused.place)) refused.number =
@@ -130,17 +130,17 @@ areas-clear n r refused =
     let zero-other = all-zero n (1 + refused.place) other.0 other.1 in
     other.2.1 (zero-other ∙ sym zero-first ∙ is_first.is_area)
 
-pub as-clear : (n : ℕ) → IsClear (RefusesSameAs (all_settings n))
+pub as-clear : (n : ℕ) → NoRefusal (RefusesSameAs (all_settings n))
 as-clear n r refused =
     let at = mapped-at (settings_of n) 1 n refused.place refused.item refused.at_place in
     let offends : Repeats as_of (all_settings n) refused.place (settings_of n (1 + refused.place)) refused.number =
     subst (λ (c : Config). Repeats as_of (all_settings n) refused.place c refused.number) (sym at.1) refused.offends in
     absurd offends
 
-pub down-clear : (doc : Document) → IsClear (RefusesDownLinks doc [])
+pub down-clear : (doc : Document) → NoRefusal (RefusesDownLinks doc [])
 down-clear doc r refused = none-some refused.number refused.above
 
-pub neighbor-clear : (n : ℕ) (doc : Document) → IsClear (RefusesNeighbor doc (all_settings n))
+pub neighbor-clear : (n : ℕ) (doc : Document) → NoRefusal (RefusesNeighbor doc (all_settings n))
 neighbor-clear n doc r refused =
     let at = mapped-at (settings_of n) 1 n refused.place refused.item refused.at_place in
     let config = settings_of n (1 + refused.place) in
@@ -150,7 +150,7 @@ neighbor-clear n doc r refused =
     let names = only (NamesOther (IsKnown doc (all_settings n) config) refused.number) covers offends in
     none-some names.1.0 names.1.1
 
-pub network-clear : (n : ℕ) → IsClear (RefusesNetwork (all_settings n))
+pub network-clear : (n : ℕ) → NoRefusal (RefusesNetwork (all_settings n))
 network-clear n r refused =
     let at = mapped-at (settings_of n) 1 n refused.place refused.item refused.at_place in
     let config = settings_of n (1 + refused.place) in
@@ -164,7 +164,7 @@ pub length-faces : (n router at : ℕ) (links : List ℕ) → length (link_faces
 length-faces n router at [] = refl
 length-faces n router at (link ∷ links) = ap suc (length-faces n router (at + 3) links)
 
-pub interfaces-clear : (n : ℕ) → n ≤ 40 → IsClear (RefusesInterfaces (all_settings n))
+pub interfaces-clear : (n : ℕ) → n ≤ 40 → NoRefusal (RefusesInterfaces (all_settings n))
 interfaces-clear n few r refused =
     let at = mapped-at (settings_of n) 1 n refused.place refused.config refused.at_place in
     let router = 1 + refused.place in
@@ -174,12 +174,12 @@ interfaces-clear n few r refused =
     let count = count-few n few in
     omega arith
 
-pub entries-clear : (most n : ℕ) → IsClear (RefusesEntries most (all_settings n))
+pub entries-clear : (most n : ℕ) → NoRefusal (RefusesEntries most (all_settings n))
 entries-clear most n r refused =
     let at = mapped-at (settings_of n) 1 n refused.place refused.config refused.at_place in
     none-some refused.list (subst (λ (c : Config). long_list most c ≡ Some refused.list) (sym at.1) refused.first)
 
-pub stops-clear : (n : ℕ) (doc : Document) → IsClear (RefusesListStopsSession doc (all_settings n))
+pub stops-clear : (n : ℕ) (doc : Document) → NoRefusal (RefusesListStopsSession doc (all_settings n))
 stops-clear n doc r refused =
     let bare = bare-site n refused.site (site-is n _ refused.site refused.at_head) in
     subst (λ (f : FaceText). IsSomeAnd f.list_in (λ g. g.line ≡ refused.line)) bare.is refused.binds
@@ -194,7 +194,7 @@ no-point n place has = by (slice_get (sites (all_settings n)) place) refl has
         let point : is_point_to_point (face_at bare.at (face_name bare.number) bare.addr bare.len) ≡ true = subst (λ (f : FaceText). is_point_to_point f ≡ true) bare.is is in
         let clash : false ≡ true = point in absurd cc
 
-pub adjacency-clear : (n : ℕ) (doc : Document) → IsClear (RefusesAdjacencyForm doc (all_settings n))
+pub adjacency-clear : (n : ℕ) (doc : Document) → NoRefusal (RefusesAdjacencyForm doc (all_settings n))
 adjacency-clear n doc r refused = elim refused [
   | inl types ↦ elim types.refuses.offends [
     | inl one ↦ no-point n types.refuses.item.a.0 one.0

@@ -16,7 +16,7 @@ use Rattle.ios_words.specs.Commands.{is_extended_block, ReadBy}
 use Rattle.ios_words.specs.Language.{rows}
 use Rattle.ios_words.specs.Names.{is_face_name}
 use Rattle.arc_base.specs.NameForms.{is_name}
-use Rattle.ios_words.specs.Plain.{plain_line, IsReadAs}
+use Rattle.ios_words.specs.Plain.{plain_line, IsReadBack}
 use Rattle.ios_words.specs.Prefixes.{whole}
 use Rattle.ios_words.specs.Values.{no_values}
 use Rattle.ios_words.proofs.PlainLines.{read-plain}
@@ -45,7 +45,7 @@ line-is within Is line ws command written kind reads = record {
 }
 
 -- the plain line of a command is such a line
-plain-is : (within : BlockKind) (Is : List ℕ → Type 0) (command : Command) → (r : IsReadAs within command) → Is (plain_line within command) → IsLine within Is (plain_line within command) command
+plain-is : (within : BlockKind) (Is : List ℕ → Type 0) (command : Command) → (r : IsReadBack within command) → Is (plain_line within command) → IsLine within Is (plain_line within command) command
 plain-is within Is command r kind = line-is within Is (plain_line within command) _ command r.written kind r.reads
 
 -- names with small numbers are names

@@ -16,7 +16,7 @@ use Rattle.net_model.specs.declared.rows.Network.{Network}
 use Rattle.ios_config.specs.declared.settings.FaceText.{FaceText}
 use Rattle.net_rules.specs.Linking.{JoinsFree, RefusesLinkFace, FitsSubnets, RefusesLinkSubnets}
 use Rattle.net_rules.specs.Lists.{packet_list_key}
-use Rattle.net_rules.specs.Reasons.{IsClear}
+use Rattle.net_rules.specs.Reasons.{NoRefusal}
 use Rattle.net_rules.specs.Rows.{IsFaceRow, IsLinkRow, AreRows, IsSubnet}
 use Rattle.net_rules.specs.Settings.{address_of, IsPrefixAt}
 use Rattle.net_rules.specs.Sites.{Site, sites, full_name, full_names, two_ends, ends_of}
@@ -98,7 +98,7 @@ joins-free n place some few low =
       b_free = free-end n place (b_router n link) some few low ends.b_high (b-has n link);
     }
 
-pub faces-clear : (n : ℕ) (doc : Document) → 6 ≤ n → n ≤ 40 → doc.links ≡ all_links n → IsClear (RefusesLinkFace doc (all_settings n))
+pub faces-clear : (n : ℕ) (doc : Document) → 6 ≤ n → n ≤ 40 → doc.links ≡ all_links n → NoRefusal (RefusesLinkFace doc (all_settings n))
 faces-clear n doc some few links r refused =
     let place = refused.place in
     let there : slice_get (all_links n) place ≡ Some refused.item = subst (λ (ls : List LinkText). slice_get ls place ≡ Some refused.item) links refused.at_place in
@@ -171,7 +171,7 @@ module _ (n : ℕ) (doc : Document) (net : Network) (rows : AreRows doc (all_set
       subst (λ (o : Option ℕ). IfSome o (λ x. IfSome g.addr (λ y. (x ≢ y) × (f.subnet ≡ g.subnet)))) (sym one.addr)
       (subst (λ (o : Option ℕ). IfSome o (λ y. (x ≢ y) × (f.subnet ≡ g.subnet))) (sym two.addr) (other, one-subnet x y f.subnet g.subnet block one.subnet two.subnet))
 
-pub subnets-clear : (n : ℕ) (doc : Document) → 6 ≤ n → n ≤ 40 → doc.links ≡ all_links n → IsClear (RefusesLinkSubnets doc (all_settings n))
+pub subnets-clear : (n : ℕ) (doc : Document) → 6 ≤ n → n ≤ 40 → doc.links ≡ all_links n → NoRefusal (RefusesLinkSubnets doc (all_settings n))
 subnets-clear n doc some few links r refused =
     let net = refused.net in
     let bad = refused.refuses in

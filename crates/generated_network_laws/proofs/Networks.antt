@@ -14,10 +14,10 @@ use Rattle.net_model.specs.declared.rows.Protocol.{Protocol}
 use Rattle.net_model.specs.declared.rows.Protocol.TheVariants.{Ospf}
 use Rattle.ios_config.specs.declared.settings.Config.{Config}
 use Rattle.net_rules.specs.Lists.{IsPacketListRow, IsRouteListRow, packet_row_at, route_row_at, route_list_key}
-use Rattle.net_build.specs.Networks.{Says, IsFirstRefusalWithin}
+use Rattle.net_build.specs.Networks.{HasSettings, IsFirstRefusalWithin}
 use Rattle.net_build.specs.Order.{Try, tries, RefusesWithin, IsFirstOf}
 use Rattle.net_build.specs.Order as order
-use Rattle.net_rules.specs.Reasons.{IsClear, IsFirst}
+use Rattle.net_rules.specs.Reasons.{NoRefusal, IsEarliest}
 use Rattle.net_rules.specs.Rows.{IsRouterRow, IsLinkRow, AreRows, AreSessions}
 use Rattle.net_rules.specs.Sites.{full_names}
 use Rattle.net_rules.specs.Sites as build
@@ -37,7 +37,7 @@ use Rattle.generated_network_laws.proofs.Said.{settings_of, all_settings, files-
 use Rattle.generated_network_laws.proofs.SubnetsClear.{overlap-clear}
 
 -- no try refuses anything
-all-clear : (most n : ℕ) (doc : Document) → 6 ≤ n → n ≤ 40 → doc.links ≡ all_links n → AllZip Asks (asked n) doc.policies → (t : Try) → IsClear (RefusesWithin [] most doc (all_settings n) t)
+all-clear : (most n : ℕ) (doc : Document) → 6 ≤ n → n ≤ 40 → doc.links ≡ all_links n → AllZip Asks (asked n) doc.policies → (t : Try) → NoRefusal (RefusesWithin [] most doc (all_settings n) t)
 all-clear most n doc some few links policies order.Hostname = hostname-clear n few
 all-clear most n doc some few links policies order.Protocol = protocol-clear n (omega arith)
 all-clear most n doc some few links policies order.TwoAreas = areas-clear n
@@ -54,9 +54,10 @@ all-clear most n doc some few links policies order.Interfaces = interfaces-clear
 all-clear most n doc some few links policies order.Entries = entries-clear most n
 all-clear most n doc some few links policies order.Endpoint = endpoint-clear n doc some few links policies
 
-none-first : (Makes : Try → Refusal → Type 0) → ((t : Try) → IsClear (Makes t)) → (ts : List Try) (r : Refusal) → IsFirstOf Makes ts r → ⊥
+none-first : (Makes : Try → Refusal → Type 0) → ((t : Try) → NoRefusal (Makes t)) → (ts : List Try) (r : Refusal) → IsFirstOf Makes ts r → ⊥
 none-first Makes clear [] r first = first
-none-first Makes clear (t ∷ ts) r first = ⊎_elim (λ (here : IsFirst (Makes t) r). clear t r here.made) (λ (later : IsClear (Makes t) × IsFirstOf Makes ts r). none-first Makes clear ts r later.1) first
+none-first Makes clear (t ∷ ts) r first = ⊎_elim (λ (here : IsEarliest (Makes t) r). clear t r here.made) (λ (later : NoRefusal (Makes t) × IsFirstOf Makes ts r). none-first Makes clear ts r later.1)
+    first
 
 pub not-refused : GeneratedFilesAreNotRefused
 not-refused n most generated r g refused =
@@ -95,7 +96,7 @@ have-plan n most generated net g is =
     let few : n ≤ 40 = g.few in
     let some : 6 ≤ n = g.some in
     let doc = generated.doc in
-    let said = subst (λ files. AllZip Says files is.configs) g.is.files is.said in
+    let said = subst (λ files. AllZip HasSettings files is.configs) g.is.files is.said in
     let rows : AreRows doc (all_settings n) net = subst (λ cs. AreRows doc cs net) (files-say n is.configs few said) is.rows in
     let base = rows.base in
     let ospf : net.protocol ≡ Ospf = base.protocol ∙ protocol-is n (omega arith) in

@@ -22,7 +22,7 @@ use Rattle.net_rules.specs.Lists.{packet_list_key}
 use Rattle.net_rules.specs.Rows.{IsFaceRow, IsLinkRow, AreRows}
 use Rattle.net_rules.specs.Settings.{address_of, CommandCovers, IsEnabled, IsPrefixAt, is_passive, is_up, lines_of}
 use Rattle.net_rules.specs.Sites.{Site, sites, full_name, full_names, ends_of}
-use Rattle.net_gen.specs.Generated.{link_text, IsHostNetwork}
+use Rattle.net_gen.specs.Generated.{link_text, IsGeneratedHostNetwork}
 use Rattle.net_gen.specs.RouterFiles.{address}
 use Rattle.net_gen.specs.Plans.{link_count, a_router, b_router, has_end}
 use Rattle.generated_network_laws.specs.Plans.{IsEndAt, JoinsRouters, HasHostNetwork}
@@ -118,7 +118,7 @@ module _ (n : ℕ) (doc : Document) (net : Network) (rows : AreRows doc (all_set
       let own : h.row.router.0 ≡ router - 1 = s.2.router ∙ ap (λ (x : Site). x.router) same in
       record { place = h.place; face = h.row; at_place = h.at_row; own = omega arith; host = as-host h.row.host h.host }
     where
-      as-host : (o : Option Prefix) → IsSomeAnd o (IsPrefixAt (address router 0 1) 24) → IsSomeAnd o (IsHostNetwork router)
+      as-host : (o : Option Prefix) → IsSomeAnd o (IsPrefixAt (address router 0 1) 24) → IsSomeAnd o (IsGeneratedHostNetwork router)
       as-host None is = is
       as-host (Some q) is =
           let facts = prefix-facts (address router 0 1) 24 q is in

@@ -19,7 +19,7 @@ use Rattle.ios_config.specs.Rising.{FallsAt}
 use Rattle.ios_config.proofs.LineLists.{commands-of-lines}
 use Rattle.ios_config.proofs.OneAnswer.{refused_alone}
 use Rattle.ios_config.proofs.Unique.{config_one}
-use Rattle.net_build.specs.Networks.{Says, SaysWrong, IsFaulty, IsFirstFaulty}
+use Rattle.net_build.specs.Networks.{HasSettings, SaysWrong, IsFaulty, IsFirstFaulty}
 use Rattle.net_gen.specs.Plans.{numbers, link_count, has_end}
 use Rattle.net_gen.specs.RouterFiles.{router_lines, text_of}
 use Rattle.net_gen.specs.Generated.{router_texts}
@@ -56,7 +56,7 @@ links-small n router few =
 
 -- why a text is no router file, if it is none, told of what it sets
 pub record IsRouterFile (text : List ℕ) (config : Config) : Type 0 where
-  pub says : (other : Config) → Says text other → other ≡ config
+  pub says : (other : Config) → HasSettings text other → other ≡ config
   pub right : (line : ℕ) (kind : Kind) → IsFaulty text line kind → ⊥
 
 module _ (n router : ℕ) (few : n ≤ 40) (own : router ≤ n) where
@@ -106,8 +106,8 @@ module _ (n router : ℕ) (few : n ≤ 40) (own : router ≤ n) where
     ];
   }
 
-said-all : (f : ℕ → List ℕ) (g : ℕ → Config) (xs : List ℕ) (configs : List Config) → ((x : ℕ) → Contains xs x → (c : Config) → Says (f x) c → c ≡ g x) →
-    AllZip Says (map f xs) configs → configs ≡ map g xs
+said-all : (f : ℕ → List ℕ) (g : ℕ → Config) (xs : List ℕ) (configs : List Config) → ((x : ℕ) → Contains xs x → (c : Config) → HasSettings (f x) c → c ≡ g x) →
+    AllZip HasSettings (map f xs) configs → configs ≡ map g xs
 said-all f g [] [] each said = refl
 said-all f g [] (c ∷ configs) each said = absurd said
 said-all f g (x ∷ xs) [] each said = absurd said
@@ -116,7 +116,7 @@ said-all f g (x ∷ xs) (c ∷ configs) each said =
     ∙ ap (λ ds. g x ∷ ds) (said-all f g xs configs (λ y there. each y (items.Contains-tail x y xs there)) said.1)
 
 -- the files set this, and none of them is no router file
-pub files-say : (n : ℕ) (configs : List Config) → n ≤ 40 → AllZip Says (router_texts n) configs → configs ≡ all_settings n
+pub files-say : (n : ℕ) (configs : List Config) → n ≤ 40 → AllZip HasSettings (router_texts n) configs → configs ≡ all_settings n
 files-say n configs few said =
     said-all (λ router. text_of (router_lines n router)) (settings_of n) (numbers n) configs
     (λ router there c says. let ranged = in-range 1 n router there in let high : router < 1 + n = ranged.1 in (is-file n router few (omega arith)).says c says) said

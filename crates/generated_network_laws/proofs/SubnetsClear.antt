@@ -12,7 +12,7 @@ use Rattle.net_model.specs.declared.rows.Network.{Network}
 use Rattle.net_model.specs.Validity.{EndsAt, AreLinked, AreApart}
 use Rattle.ios_config.specs.declared.settings.FaceText.{FaceText}
 use Rattle.net_rules.specs.Addressing.{RefusesOverlap}
-use Rattle.net_rules.specs.Reasons.{IsClear}
+use Rattle.net_rules.specs.Reasons.{NoRefusal}
 use Rattle.net_rules.specs.Rows.{IsLinkRow, AreRows, IsSubnet}
 use Rattle.net_rules.specs.Settings.{address_of, IsPrefixAt}
 use Rattle.net_rules.specs.Sites.{Site, sites, full_names}
@@ -137,7 +137,7 @@ module _ (n : ℕ) (doc : Document) (net : Network) (rows : AreRows doc (all_set
               ]
         ]
 
-pub overlap-clear : (n : ℕ) (doc : Document) → 6 ≤ n → n ≤ 40 → doc.links ≡ all_links n → IsClear (RefusesOverlap doc (all_settings n))
+pub overlap-clear : (n : ℕ) (doc : Document) → 6 ≤ n → n ≤ 40 → doc.links ≡ all_links n → NoRefusal (RefusesOverlap doc (all_settings n))
 overlap-clear n doc some few links r refused =
     let i = refused.overlaps.0 in
     let low : i < refused.place = refused.overlaps.1 in

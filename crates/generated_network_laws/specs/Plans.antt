@@ -5,7 +5,7 @@ use Rattle.net_model.specs.declared.rows.FaceRow.{FaceRow}
 use Rattle.net_model.specs.declared.rows.LinkRow.{LinkRow}
 use Rattle.net_model.specs.declared.rows.Network.{Network}
 use Rattle.net_model.specs.declared.rows.Protocol.TheVariants.{Ospf}
-use Rattle.net_gen.specs.Generated.{IsHostNetwork}
+use Rattle.net_gen.specs.Generated.{IsGeneratedHostNetwork}
 use Rattle.net_gen.specs.Plans.{numbers, link_count, a_router, b_router, port}
 use Rattle.net_gen.specs.RouterFiles.{host_name, face_name}
 
@@ -33,7 +33,7 @@ pub record HasHostNetwork (net : Network) (router : ℕ) : Type 0 where
   pub face : FaceRow
   pub at_place : slice_get net.faces place ≡ Some face
   pub own : face.router.0 + 1 ≡ router
-  pub host : IsSomeAnd face.host (IsHostNetwork router)
+  pub host : IsSomeAnd face.host (IsGeneratedHostNetwork router)
 
 -- the network runs OSPF, has these routers in their order, their host networks and the links
 -- between them, and no lists and no sessions

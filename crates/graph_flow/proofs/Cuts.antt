@@ -10,7 +10,7 @@ use Rattle.std.proofs.lemmas.List.Elements.{All-contains}
 use Rattle.arc_base.specs.declared.place.Link.{Link}
 use Rattle.graph_flow.specs.declared.arcs.Arc.{Arc}
 use Rattle.graph_flow.specs.Paths.{Leads, Digraph, IsGraph, Joins, MayShare}
-use Rattle.graph_flow.specs.Sides.{Separates, Leaves, IsLeftOver, AreLeftOver, IsLeastSide}
+use Rattle.graph_flow.specs.Sides.{Separates, LeadsOut, IsLeftOver, AreLeftOver, IsLeastSide}
 use Rattle.graph_flow.specs.Flows.{Units, unit_at, IsFlow, IsGreatest, out_link, links_out}
 use Rattle.graph_flow.specs.Residual.{reversed, residual}
 use Rattle.graph_flow.proofs.Lists.{Contains-none, Contains-cases, AllPairs-nil, AllPairs-cons, AllPairs-members, All-from_members}
@@ -19,12 +19,12 @@ use Rattle.graph_flow.proofs.Turns.{OnArcs, sum-entry}
 use Rattle.graph_flow.proofs.Sums.{ind, leads_out, leads_in, out_of_side}
 use Rattle.graph_flow.proofs.Residuals.{none_or_some, Source, residual-source, residual-free, residual-back, filter_map-member, filter_map-from, same_link}
 
-leaves-test : (side : ℕ → Bool) (arc : Arc) → (side arc.tail && not (side arc.head)) ≡ true → Leaves side arc
+leaves-test : (side : ℕ → Bool) (arc : Arc) → (side arc.tail && not (side arc.head)) ≡ true → LeadsOut side arc
 leaves-test side arc e =
     let both = and_parts (side arc.tail) (not (side arc.head)) e in
     record { from_inside = both.0; to_outside = not-true (side arc.head) both.1 }
 
-pub leaves-not : (side : ℕ → Bool) (arc : Arc) → (Leaves side arc → ⊥) → leads_out side (Some arc) ≡ 0
+pub leaves-not : (side : ℕ → Bool) (arc : Arc) → (LeadsOut side arc → ⊥) → leads_out side (Some arc) ≡ 0
 leaves-not side arc never =
     elim (cases_Bool (side arc.tail && not (side arc.head))) [
       | inl t ↦ absurd (never (leaves-test side arc t))
@@ -54,7 +54,7 @@ is-none arc o e f = cc
 
 -- every unit that leads out of the set goes over a link of the list
 abbrev pub Covers : (ℕ → Bool) → List Link → Units → Type 0
-Covers side links units = (link : ℕ) (arc : Arc) → unit_at units link ≡ Some arc → Leaves side arc → (k : Link) × Contains links k × (k.0 ≡ link)
+Covers side links units = (link : ℕ) (arc : Arc) → unit_at units link ≡ Some arc → LeadsOut side arc → (k : Link) × Contains links k × (k.0 ≡ link)
 
 covered-rest : (side : ℕ → Bool) (k : Link) (links : List Link) (units : Units) → Covers side (k ∷ links) units → k.0 < length units → Covers side links (set units k.0 None)
 covered-rest side k links units h inside l arc e out =
@@ -69,7 +69,7 @@ covered-rest side k links units h inside l arc e out =
     ]
 
 covered-skip : (side : ℕ → Bool) (k : Link) (links : List Link) (units : Units) → Covers side (k ∷ links) units →
-    ((arc : Arc) → unit_at units k.0 ≡ Some arc → Leaves side arc → ⊥) → Covers side links units
+    ((arc : Arc) → unit_at units k.0 ≡ Some arc → LeadsOut side arc → ⊥) → Covers side links units
 covered-skip side k links units h never l arc e out =
     let found = h l arc e out in elim (Contains-cases k links found.0 found.1) [
       | inl same ↦ absurd (never arc (ap (λ (n : ℕ). unit_at units n) (ap (λ (x : Link). x.0) same ∙ found.2) ∙ e) out)
@@ -97,7 +97,7 @@ covered side (k ∷ links) units h =
     ]
 
 -- and fewer where one of the links carries no unit out
-pub covered-less : (side : ℕ → Bool) (links : List Link) (units : Units) (k : Link) → Contains links k → ((arc : Arc) → unit_at units k.0 ≡ Some arc → Leaves side arc → ⊥) →
+pub covered-less : (side : ℕ → Bool) (links : List Link) (units : Units) (k : Link) → Contains links k → ((arc : Arc) → unit_at units k.0 ≡ Some arc → LeadsOut side arc → ⊥) →
     Covers side links units → sum_by (leads_out side) units + 1 ≤ length links
 covered-less side [] units k m never h = absurd (Contains-none k m)
 covered-less side (j ∷ links) units k m never h =
@@ -162,7 +162,7 @@ pub none_in : (arcs : List Arc) (units : Units) (side : ℕ → Bool) → OnArcs
 none_in arcs units side on closed link used e h = closed (reversed used) (residual-back arcs units link used on e) h
 
 -- and each arc that leads out of it carries a unit
-pub all_out : (g : Digraph) (units : Units) (side : ℕ → Bool) → IsGraph g → OnArcs g.arcs units → Closed g.arcs units side → (arc : Arc) → Contains g.arcs arc → Leaves side arc →
+pub all_out : (g : Digraph) (units : Units) (side : ℕ → Bool) → IsGraph g → OnArcs g.arcs units → Closed g.arcs units side → (arc : Arc) → Contains g.arcs arc → LeadsOut side arc →
     unit_at units arc.link.0 ≡ Some arc
 all_out g units side is on closed arc m out =
     elim (none_or_some (unit_at units arc.link.0)) [
@@ -191,11 +191,11 @@ link_is : (b : Bool) (k l : Link) → (if b then Some k else None) ≡ Some l �
 link_is true k l e = (refl, some-link k l e)
 link_is false k l e = absurd (none-link l e)
 
-out_link-is : (side : ℕ → Bool) (unit : Option Arc) (k : Link) → out_link side unit ≡ Some k → (arc : Arc) × (unit ≡ Some arc) × Leaves side arc × (arc.link ≡ k)
+out_link-is : (side : ℕ → Bool) (unit : Option Arc) (k : Link) → out_link side unit ≡ Some k → (arc : Arc) × (unit ≡ Some arc) × LeadsOut side arc × (arc.link ≡ k)
 out_link-is side None k e = absurd (none-link k e)
 out_link-is side (Some arc) k e = let both = link_is (side arc.tail && not (side arc.head)) arc.link k e in (arc, refl, leaves-test side arc both.0, both.1)
 
-out_link-leaves : (side : ℕ → Bool) (arc : Arc) → Leaves side arc → out_link side (Some arc) ≡ Some arc.link
+out_link-leaves : (side : ℕ → Bool) (arc : Arc) → LeadsOut side arc → out_link side (Some arc) ≡ Some arc.link
 out_link-leaves side arc l = ap (λ b. if b then Some arc.link else None) (and_from (side arc.tail) (not (side arc.head)) l.from_inside (ap not l.to_outside))
 
 length-one : (b : Bool) (k : Link) (ks : List Link) → length (cons_option (if b then Some k else None) ks) ≡ ind b + length ks
@@ -298,7 +298,7 @@ other-closed g s t many side links units is ls lt sep flow left few arc m inside
       | inl t ↦ t
       | inr outside ↦ elim from.how [
         | inl free ↦
-            let base_out : Leaves side from.base = subst (λ (x : Arc). Leaves side x) (sym free.1) (record { from_inside = inside; to_outside = outside }) in
+            let base_out : LeadsOut side from.base = subst (λ (x : Arc). LeadsOut side x) (sym free.1) (record { from_inside = inside; to_outside = outside }) in
             let less : sum_by (leads_out side) units + 1 ≤ length links =
             covered-less side links units from.base.link (left.each from.base from.is_base base_out) (λ b e _. is-none b (unit_at units from.base.link.0) free.0 e) cover in
             absurd (omega (arith, out, less, few))

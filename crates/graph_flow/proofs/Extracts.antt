@@ -11,11 +11,11 @@ use Rattle.std.proofs.lemmas.List.Quantifiers.{all_pairs_push}
 use Rattle.std.proofs.lemmas.List.Elements.{All-contains, All-push, All-weaker, filter_map-append, Contains-append_cases}
 use Rattle.arc_base.specs.declared.place.Link.{Link}
 use Rattle.graph_flow.specs.declared.arcs.Arc.{Arc}
-use Rattle.graph_flow.specs.Paths.{Path, Leads, Digraph, IsGraph, MayShare, nodes_of, links_of, all_links, IsPath, AreDisjointPaths}
+use Rattle.graph_flow.specs.Paths.{ArcPath, Leads, Digraph, IsGraph, MayShare, nodes_of, links_of, links_of_paths, IsArcPath, AreDisjointPaths}
 use Rattle.arc_base.specs.Lists.{AreDistinct}
 use Rattle.graph_flow.specs.Sides.{Separates}
 use Rattle.graph_flow.specs.Flows.{Units, unit_at, unit_from, unit_to, leaving, entering, IsFlow}
-use Rattle.graph_flow.specs.Answers.{first_link, AreInOrder}
+use Rattle.graph_flow.specs.Answers.{first_link, AreInLinkOrder}
 use Rattle.graph_flow.specs.Residual.{may_pass, passed_by, passable, leaving_arc, cleared, TakesPath}
 use Rattle.graph_flow.proofs.Lists.{Contains-here, AllPairs-append, All-from_members}
 use Rattle.graph_flow.proofs.Ways.{Path-over, Path-members, leads, leads-start, leads-closed, way_from_leads}
@@ -177,14 +177,14 @@ first-only units first arc m at =
       | inr same ↦ eqb-true arc.link.0 first.link.0 same
     ]
 
-begins-with : (units : Units) (first : Arc) (t : ℕ) (way : List Arc) → first.tail ≢ t → Path (passable units first) first.tail way t →
+begins-with : (units : Units) (first : Arc) (t : ℕ) (way : List Arc) → first.tail ≢ t → ArcPath (passable units first) first.tail way t →
     (first_link (links_of way) ≡ first.link.0) × ((k : Link) × Contains (links_of way) k × (k.0 ≡ first.link.0))
 begins-with units first t [] apart p = absurd (apart p)
 begins-with units first t (arc ∷ way) apart p =
     let same : arc.link.0 ≡ first.link.0 = first-only units first arc p.0 p.1 in (same, (arc.link, Contains-here arc.link (links_of way), same))
 
 takes-way : (g : Digraph) (units : Units) (first : Arc) (t : ℕ) (way : List Arc) → IsGraph g → first.tail ≢ t → IsFlow g.arcs first.tail t (leaving units first.tail) units →
-    unit_at units first.link.0 ≡ Some first → Path (passable units first) first.tail way t → AreDistinct (nodes_of first.tail way) →
+    unit_at units first.link.0 ≡ Some first → ArcPath (passable units first) first.tail way t → AreDistinct (nodes_of first.tail way) →
     TakesPath g.arcs first t units (links_of way) (cleared units (links_of way))
 takes-way g units first t way is apart flow at p once =
     let on : OnArcs g.arcs units = record { is_arc = flow.is_arc; of_link = flow.of_link } in
@@ -221,12 +221,12 @@ takes-way g units first t way is apart flow at p once =
 
 -- a path that may be passed, taken out of the flow
 pub takes : (g : Digraph) (units : Units) (first : Arc) (t : ℕ) (links : List Link) → IsGraph g → first.tail ≢ t → IsFlow g.arcs first.tail t (leaving units first.tail) units →
-    unit_at units first.link.0 ≡ Some first → IsPath (passable units first) first.tail links t → TakesPath g.arcs first t units links (cleared units links)
+    unit_at units first.link.0 ≡ Some first → IsArcPath (passable units first) first.tail links t → TakesPath g.arcs first t units links (cleared units links)
 takes g units first t links is apart flow at path =
     subst (λ (ks : List Link). TakesPath g.arcs first t units ks (cleared units ks)) path.of_links (takes-way g units first t path.way is apart flow at path.leads path.once)
 
 -- its links have places
-pub path-places : (units : Units) (first : Arc) (s t : ℕ) (links : List Link) → ((link : ℕ) (a : Arc) → unit_at units link ≡ Some a → a.link.0 ≡ link) → IsPath (passable units first) s links t →
+pub path-places : (units : Units) (first : Arc) (s t : ℕ) (links : List Link) → ((link : ℕ) (a : Arc) → unit_at units link ≡ Some a → a.link.0 ≡ link) → IsArcPath (passable units first) s links t →
     All (λ (k : Link). k.0 < length units) links
 path-places units first s t links of_link path =
     subst (λ (ks : List Link). All (λ (k : Link). k.0 < length units) ks) path.of_links
@@ -241,10 +241,10 @@ path-places units first s t links of_link path =
 pub record IsTaking (arcs : List Arc) (s t : ℕ) (units : Units) (left : Units) (paths : List (List Link)) (link : ℕ) : Type 0 where
   pub flow : IsFlow arcs s t (leaving left s) left
   pub count : length paths + leaving left s ≡ leaving units s
-  pub each : All (λ path. IsPath arcs s path t) paths
-  pub disjoint : AreDistinct (all_links paths)
-  pub gone : (k : Link) → Contains (all_links paths) k → unit_at left k.0 ≡ None
-  pub order : AreInOrder paths
+  pub each : All (λ path. IsArcPath arcs s path t) paths
+  pub disjoint : AreDistinct (links_of_paths paths)
+  pub gone : (k : Link) → Contains (links_of_paths paths) k → unit_at left k.0 ≡ None
+  pub order : AreInLinkOrder paths
   pub below : All (λ path. first_link path < link) paths
   pub past : (l : ℕ) (arc : Arc) → l < link → unit_at left l ≡ Some arc → arc.tail ≢ s
   pub size : length left ≡ length units
@@ -273,18 +273,18 @@ pub taking-takes : (arcs : List Arc) (s t : ℕ) (units left : Units) (paths : L
 taking-takes arcs s t units left paths link first path rest taking number from took =
     let rest_at : (l : ℕ) (arc : Arc) → unit_at rest l ≡ Some arc → unit_at left l ≡ Some arc =
     λ l arc e. cleared-sub left path l arc (ap (λ (w : Units). unit_at w l) (sym took.rest_is) ∙ e) in
-    let all : all_links (paths ++ path ∷ []) ≡ all_links paths ++ path =
-    flat_map-append (λ (p : List Link). p) paths (path ∷ []) ∙ ap (λ (ks : List Link). all_links paths ++ ks) (append-nil path) in
+    let all : links_of_paths (paths ++ path ∷ []) ≡ links_of_paths paths ++ path =
+    flat_map-append (λ (p : List Link). p) paths (path ∷ []) ∙ ap (λ (ks : List Link). links_of_paths paths ++ ks) (append-nil path) in
     let fewer : leaving rest s + 1 ≡ leaving left s = subst (λ (n : ℕ). leaving rest n + 1 ≡ leaving left n) from took.one_less in
     record {
       flow = subst (λ (n : ℕ). IsFlow arcs n t (leaving rest n) rest) from took.flow;
       count = omega (arith, taking.count, fewer, length-append paths (path ∷ []));
-      each = All-push (λ p. IsPath arcs s p t) paths path taking.each (subst (λ (n : ℕ). IsPath arcs n path t) from took.path);
+      each = All-push (λ p. IsArcPath arcs s p t) paths path taking.each (subst (λ (n : ℕ). IsArcPath arcs n path t) from took.path);
       disjoint = subst (λ (ks : List Link). AreDistinct ks) (sym all)
-          (AllPairs-append (λ (k l : Link). k ≢ l) (all_links paths) path taking.disjoint took.different (λ k l m n e.
+          (AllPairs-append (λ (k l : Link). k ≢ l) (links_of_paths paths) path taking.disjoint took.different (λ k l m n e.
           let none : unit_at left l.0 ≡ None = subst (λ (x : Link). unit_at left x.0 ≡ None) e (taking.gone k m) in
           false≢true (sym (ap is_some none) ∙ took.units_on l n)));
-      gone = λ k m. elim (Contains-append_cases (all_links paths) path k (subst (λ (ks : List Link). Contains ks k) all m)) [
+      gone = λ k m. elim (Contains-append_cases (links_of_paths paths) path k (subst (λ (ks : List Link). Contains ks k) all m)) [
         | inl a ↦ ap (λ (w : Units). unit_at w k.0) took.rest_is ∙ cleared-stays left path k.0 (taking.gone k a)
         | inr b ↦ ap (λ (w : Units). unit_at w k.0) took.rest_is ∙ cleared-none left path k b
       ];

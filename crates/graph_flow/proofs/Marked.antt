@@ -10,7 +10,7 @@ use Rattle.arc_base.specs.declared.place.Link.{Link}
 use Rattle.graph_flow.specs.declared.arcs.Arc.{Arc}
 use Rattle.graph_flow.specs.declared.search.Mark.{Mark}
 use Rattle.graph_flow.specs.declared.search.Mark.TheVariants.{Unseen, Start, After}
-use Rattle.graph_flow.specs.Paths.{Path, Leads, nodes_of, links_of, IsPath}
+use Rattle.graph_flow.specs.Paths.{ArcPath, Leads, nodes_of, links_of, IsArcPath}
 use Rattle.arc_base.specs.Lists.{AreDistinct}
 use Rattle.graph_flow.specs.Residual.{residual}
 use Rattle.graph_flow.specs.Marks.{is_seen, depth_of, mark_at, way_by, way_to, path_by, paths_by, IsAfter, AreSteps, IsMarked, IsSpread}
@@ -25,13 +25,13 @@ mark-cases (After arc depth) = inr (inr (arc, depth, refl))
 
 -- the way by which a node was reached leads there, and its nodes have lower depths one before the other
 pub record Reached (arcs : List Arc) (s : ℕ) (marks : List Mark) (node depth : ℕ) : Type 0 where
-  pub leads : Path arcs s (way_by marks depth (mark_at marks node)) node
+  pub leads : ArcPath arcs s (way_by marks depth (mark_at marks node)) node
   pub once : AreDistinct (nodes_of s (way_by marks depth (mark_at marks node)))
   pub low : All (λ x. depth_of (mark_at marks x) ≤ depth) (nodes_of s (way_by marks depth (mark_at marks node)))
 
 -- a way, whatever its spelling
 record On (arcs : List Arc) (s : ℕ) (marks : List Mark) (node depth : ℕ) (way : List Arc) : Type 0 where
-  leads : Path arcs s way node
+  leads : ArcPath arcs s way node
   once : AreDistinct (nodes_of s way)
   low : All (λ x. depth_of (mark_at marks x) ≤ depth) (nodes_of s way)
 
@@ -74,7 +74,7 @@ reached arcs s marks marked (suc depth) node seen d =
             ap (λ (xs : List ℕ). s ∷ xs) (sym (map_push (λ (x : Arc). x.head) (way_by marks depth (mark_at marks arc.tail)) arc)) in
             let head_depth : depth_of (mark_at marks arc.head) ≡ suc depth = ap (λ (n : ℕ). depth_of (mark_at marks n)) after.head ∙ d in
             let last : On arcs s marks node (suc depth) (way_by marks depth (mark_at marks arc.tail) ++ arc ∷ []) = record {
-              leads = subst (λ (n : ℕ). Path arcs s (way_by marks depth (mark_at marks arc.tail) ++ arc ∷ []) n) after.head
+              leads = subst (λ (n : ℕ). ArcPath arcs s (way_by marks depth (mark_at marks arc.tail) ++ arc ∷ []) n) after.head
                   (Path-snoc arcs s (way_by marks depth (mark_at marks arc.tail)) arc before.leads (marked.over node arc steps e));
               once = subst (λ (xs : List ℕ). AreDistinct xs) nodes_are
                   (all_pairs_push (λ x y. x ≢ y) (nodes_of s (way_by marks depth (mark_at marks arc.tail))) arc.head before.once (λ k x l same.
@@ -129,7 +129,7 @@ some-of false links found e = absurd (nothing found e)
 pub some-seen : (marks : List Mark) (node : ℕ) → is_some (get_or (paths_by marks) node None) ≡ is_seen (mark_at marks node)
 some-seen marks node = ap is_some (paths-at marks node) ∙ some-if (is_seen (mark_at marks node)) (links_of (way_to marks node))
 
-pub is-path : (arcs : List Arc) (s : ℕ) (marks : List Mark) → IsSpread arcs s marks → (node : ℕ) (links : List Link) → get_or (paths_by marks) node None ≡ Some links → IsPath arcs s links node
+pub is-path : (arcs : List Arc) (s : ℕ) (marks : List Mark) → IsSpread arcs s marks → (node : ℕ) (links : List Link) → get_or (paths_by marks) node None ≡ Some links → IsArcPath arcs s links node
 is-path arcs s marks spread node links e =
     let parts = some-of (is_seen (mark_at marks node)) (links_of (way_to marks node)) links (sym (paths-at marks node) ∙ e) in
     let way : Reached arcs s marks node (depth_of (mark_at marks node)) = to-reached arcs s marks spread.marked node parts.0 in

@@ -7,9 +7,9 @@ use Rattle.std.proofs.lemmas.List.{get_or_past, get_or-replicate, length-replica
 use Rattle.std.proofs.lemmas.List.Elements.{All-contains, All-head, All-tail, filter_passes, Contains-append_left, Contains-append_right}
 use Rattle.arc_base.specs.declared.place.Link.{Link}
 use Rattle.graph_flow.specs.declared.arcs.Arc.{Arc}
-use Rattle.graph_flow.specs.Paths.{Path, Leads, Digraph, IsGraph, links_of, all_links, IsPath, AreDisjointPaths}
+use Rattle.graph_flow.specs.Paths.{ArcPath, Leads, Digraph, IsGraph, links_of, links_of_paths, IsArcPath, AreDisjointPaths}
 use Rattle.arc_base.specs.Lists.{AreDistinct}
-use Rattle.graph_flow.specs.Sides.{Separates, Leaves}
+use Rattle.graph_flow.specs.Sides.{Separates, LeadsOut}
 use Rattle.graph_flow.specs.Flows.{Units, unit_at, unit_from, unit_to, leaving, entering, IsFlow, links_out}
 use Rattle.graph_flow.specs.Residual.{residual, sent}
 use Rattle.graph_flow.specs.Laws.{HaveSmallCut, PathsOrCut, NotBoth, ReachedAreListed}
@@ -107,8 +107,8 @@ paths_or_cut g is s t want ls lt apart =
     ]
 
 -- a way out of a set goes over an arc that leads out of it
-crosses : (arcs : List Arc) (side : ℕ → Bool) (u v : ℕ) (way : List Arc) → Path arcs u way v → IsTrue (side u) → IsFalse (side v) →
-    (arc : Arc) × Contains arcs arc × Contains (links_of way) arc.link × Leaves side arc
+crosses : (arcs : List Arc) (side : ℕ → Bool) (u v : ℕ) (way : List Arc) → ArcPath arcs u way v → IsTrue (side u) → IsFalse (side v) →
+    (arc : Arc) × Contains arcs arc × Contains (links_of way) arc.link × LeadsOut side arc
 crosses arcs side u v [] p inside outside = absurd (both (side u) inside (subst (λ (n : ℕ). side n ≡ false) (sym p) outside))
 crosses arcs side u v (a ∷ way) p inside outside =
     elim (cases_Bool (side a.head)) [
@@ -116,16 +116,17 @@ crosses arcs side u v (a ∷ way) p inside outside =
       | inr f ↦ (a, p.0, Contains-here a.link (links_of way), record { from_inside = subst (λ (n : ℕ). side n ≡ true) (sym p.1) inside; to_outside = f })
     ]
 
-in_all_links : (paths : List (List Link)) (path : List Link) (k : Link) → Contains paths path → Contains path k → Contains (all_links paths) k
+in_all_links : (paths : List (List Link)) (path : List Link) (k : Link) → Contains paths path → Contains path k → Contains (links_of_paths paths) k
 in_all_links [] path k m n = absurd (Contains-none path m)
 in_all_links (p ∷ paths) path k m n =
     elim (Contains-cases p paths path m) [
-      | inl e ↦ Contains-append_left p (all_links paths) k (subst (λ (q : List Link). Contains q k) (sym e) n)
-      | inr rest ↦ Contains-append_right p (all_links paths) k (in_all_links paths path k rest n)
+      | inl e ↦ Contains-append_left p (links_of_paths paths) k (subst (λ (q : List Link). Contains q k) (sym e) n)
+      | inr rest ↦ Contains-append_right p (links_of_paths paths) k (in_all_links paths path k rest n)
     ]
 
 -- paths that share no link, each with a link of a list, are no more than its links
-hit : (paths : List (List Link)) (links : List Link) → All (λ (path : List Link). (k : Link) × Contains path k × Contains links k) paths → AreDistinct (all_links paths) → length paths ≤ length links
+hit : (paths : List (List Link)) (links : List Link) → All (λ (path : List Link). (k : Link) × Contains path k × Contains links k) paths → AreDistinct (links_of_paths paths) →
+    length paths ≤ length links
 hit [] links each d = omega arith
 hit (path ∷ paths) links each d =
     let k = All-head (λ (p : List Link). (k : Link) × Contains p k × Contains links k) path paths each in
@@ -133,8 +134,8 @@ hit (path ∷ paths) links each d =
     let rest : length paths ≤ length less.rest = hit paths less.rest
     (All-from_members (λ (p : List Link). (j : Link) × Contains p j × Contains less.rest j) paths (λ p m.
     let j = All-contains (λ (q : List Link). (j : Link) × Contains q j × Contains links j) paths p (All-tail (λ (q : List Link). (k : Link) × Contains q k × Contains links k) path paths each) m in
-    (j.0, j.1, less.others j.0 j.2 (AllPairs-across (λ (a b : Link). a ≢ b) path (all_links paths) k.0 j.0 d k.1 (in_all_links paths p j.0 m j.1)))))
-    (AllPairs-right (λ (a b : Link). a ≢ b) path (all_links paths) d) in
+    (j.0, j.1, less.others j.0 j.2 (AllPairs-across (λ (a b : Link). a ≢ b) path (links_of_paths paths) k.0 j.0 d k.1 (in_all_links paths p j.0 m j.1)))))
+    (AllPairs-right (λ (a b : Link). a ≢ b) path (links_of_paths paths) d) in
     omega (arith, rest, less.shorter)
 
 pub not_both : NotBoth
@@ -142,14 +143,14 @@ not_both g is s t want ls lt apart have cut =
     let paths : AreDisjointPaths g.arcs s t want have.0 = have.1 in
     let few : length have.0 ≤ length cut.links = hit have.0 cut.links
     (All-from_members (λ (path : List Link). (k : Link) × Contains path k × Contains cut.links k) have.0 (λ path m.
-    let is_path : IsPath g.arcs s path t = All-contains (λ p. IsPath g.arcs s p t) have.0 path paths.each m in
+    let is_path : IsArcPath g.arcs s path t = All-contains (λ p. IsArcPath g.arcs s p t) have.0 path paths.each m in
     let c = crosses g.arcs cut.side s t is_path.way is_path.leads cut.separates.source cut.separates.target in
     ((c.0).link, subst (λ (ks : List Link). Contains ks (c.0).link) is_path.of_links c.2, cut.left_over.each c.0 c.1 c.3)))
     paths.disjoint in
     omega (arith, few, paths.count, cut.few)
 
 -- a way ends where it begins or at the head of an arc
-ends_at_head : (arcs : List Arc) (u v : ℕ) (way : List Arc) → Path arcs u way v → (u ≡ v) ⊎ Contains (map (λ (arc : Arc). arc.head) arcs) v
+ends_at_head : (arcs : List Arc) (u v : ℕ) (way : List Arc) → ArcPath arcs u way v → (u ≡ v) ⊎ Contains (map (λ (arc : Arc). arc.head) arcs) v
 ends_at_head arcs u v [] p = inl p
 ends_at_head arcs u v (a ∷ way) p =
     elim (ends_at_head arcs a.head v way p.2) [

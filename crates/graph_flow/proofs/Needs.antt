@@ -6,7 +6,7 @@ use Rattle.std.proofs.lemmas.Bool.{cases_eq, cases_Bool, eq-eqb, ne_eqb, false�
 use Rattle.std.proofs.lemmas.List.Elements.{All-contains, filter_passes}
 use Rattle.arc_base.specs.declared.place.Link.{Link}
 use Rattle.graph_flow.specs.declared.arcs.Arc.{Arc}
-use Rattle.graph_flow.specs.Paths.{Path, Leads, Digraph, IsGraph, Joins, links_of}
+use Rattle.graph_flow.specs.Paths.{ArcPath, Leads, Digraph, IsGraph, Joins, links_of}
 use Rattle.graph_flow.specs.Flows.{Units, unit_at}
 use Rattle.graph_flow.specs.Residual.{residual, sent, turn}
 use Rattle.graph_flow.specs.Marks.{is_seen, depth_of, mark_at, way_to, IsSpread, IsSearch}
@@ -47,14 +47,14 @@ joined : (arcs : List Arc) (u v x : ℕ) → Leads arcs u v → Leads arcs v x �
 joined arcs u v x a b = (a.0 ++ b.0, Path-append arcs u v x a.0 b.0 a.1 b.1)
 
 -- a way of other links is left
-way-left : (arcs : List Arc) (link : Link) (u v : ℕ) (way : List Arc) → Path arcs u way v → ((b : Arc) → Contains way b → b.link.0 ≡ link.0 → ⊥) → Leads (without arcs link) u v
+way-left : (arcs : List Arc) (link : Link) (u v : ℕ) (way : List Arc) → ArcPath arcs u way v → ((b : Arc) → Contains way b → b.link.0 ≡ link.0 → ⊥) → Leads (without arcs link) u v
 way-left arcs link u v [] p other = ([], p)
 way-left arcs link u v (arc ∷ way) p other =
     leads-from (without arcs link) u v arc (left arcs link arc p.0 (other arc (Contains-here arc way))) p.1
     (way-left arcs link arc.head v way p.2 (λ b m. other b (Contains-there arc way b m)))
 
 -- and so is what follows each of its arcs
-rest-left : (arcs : List Arc) (link : Link) (u v : ℕ) (way : List Arc) → Path arcs u way v → ((b : Arc) → Contains way b → b.link.0 ≡ link.0 → ⊥) →
+rest-left : (arcs : List Arc) (link : Link) (u v : ℕ) (way : List Arc) → ArcPath arcs u way v → ((b : Arc) → Contains way b → b.link.0 ≡ link.0 → ⊥) →
     (b : Arc) → Contains way b → Leads (without arcs link) b.head v
 rest-left arcs link u v [] p other b m = absurd (Contains-none b m)
 rest-left arcs link u v (arc ∷ way) p other b m =
@@ -65,7 +65,7 @@ rest-left arcs link u v (arc ∷ way) p other b m =
     ]
 
 -- a needed link is one of each path
-pub on-path : (arcs : List Arc) (link : Link) (u v : ℕ) (way : List Arc) → Path arcs u way v → IsNeeded arcs u v link → Contains (links_of way) link
+pub on-path : (arcs : List Arc) (link : Link) (u v : ℕ) (way : List Arc) → ArcPath arcs u way v → IsNeeded arcs u v link → Contains (links_of way) link
 on-path arcs link u v [] p needed = absurd (needed ([], p))
 on-path arcs link u v (arc ∷ way) p needed =
     elim (cases_eq arc.link.0 link.0) [
@@ -75,7 +75,7 @@ on-path arcs link u v (arc ∷ way) p needed =
     ]
 
 -- where each arc of a way carries its unit, a closed side with the tail of one holds the first node
-back : (arcs : List Arc) (units : Units) (side : ℕ → Bool) → OnArcs arcs units → Closed arcs units side → (u v : ℕ) (way : List Arc) → Path arcs u way v →
+back : (arcs : List Arc) (units : Units) (side : ℕ → Bool) → OnArcs arcs units → Closed arcs units side → (u v : ℕ) (way : List Arc) → ArcPath arcs u way v →
     ((b : Arc) → Contains way b → unit_at units b.link.0 ≡ Some b) → (b : Arc) → Contains way b → IsTrue (side b.tail) → IsTrue (side u)
 back arcs units side on closed u v [] p full b m inside = absurd (Contains-none b m)
 back arcs units side on closed u v (arc ∷ way) p full b m inside =
@@ -87,7 +87,7 @@ back arcs units side on closed u v (arc ∷ way) p full b m inside =
     ]
 
 -- and so does one with its last node
-back-end : (arcs : List Arc) (units : Units) (side : ℕ → Bool) → OnArcs arcs units → Closed arcs units side → (u v : ℕ) (way : List Arc) → Path arcs u way v →
+back-end : (arcs : List Arc) (units : Units) (side : ℕ → Bool) → OnArcs arcs units → Closed arcs units side → (u v : ℕ) (way : List Arc) → ArcPath arcs u way v →
     ((b : Arc) → Contains way b → unit_at units b.link.0 ≡ Some b) → IsTrue (side v) → IsTrue (side u)
 back-end arcs units side on closed u v [] p full inside = subst (λ (n : ℕ). IsTrue (side n)) (sym p) inside
 back-end arcs units side on closed u v (arc ∷ way) p full inside =
@@ -102,7 +102,7 @@ pub record Passed (arcs : List Arc) (s : ℕ) (carried : Units) (rest : List Arc
 -- a path from s to t that is walked up to a rest of it
 pub record Walked (arcs : List Arc) (s t : ℕ) (carried needed : Units) (rest : List Arc) : Type 0 where
   pub at : ℕ
-  pub path : Path arcs at rest t
+  pub path : ArcPath arcs at rest t
   pub here : Leads (residual carried arcs) s at
   pub apart : AllPairs Apart rest
   pub on : OnArcs arcs carried
@@ -351,7 +351,7 @@ started g is s t marks spread seen none needed nothing not_yet room =
       is_arc = λ link b e. absurd (none≢some b (unit_at none link) (nothing link) e);
       of_link = λ link b e. absurd (none≢some b (unit_at none link) (nothing link) e);
     } in
-    let free : Path (residual none g.arcs) s way t = Path-over g.arcs (residual none g.arcs) (λ b m. residual-free g.arcs none b m (nothing b.link.0)) s t way r.leads in
+    let free : ArcPath (residual none g.arcs) s way t = Path-over g.arcs (residual none g.arcs) (λ b m. residual-free g.arcs none b m (nothing b.link.0)) s t way r.leads in
     let can : IsRoute g.arcs none way = route g none is on room s t way free r.once in
     record {
       at = s;

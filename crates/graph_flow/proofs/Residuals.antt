@@ -6,7 +6,7 @@ use Rattle.std.proofs.lemmas.Bool.{cases_eq, eq-eqb, eqb-true, ne_eqb}
 use Rattle.std.proofs.lemmas.List.Elements.{All-contains, All-cons, All-nil}
 use Rattle.arc_base.specs.declared.place.Link.{Link}
 use Rattle.graph_flow.specs.declared.arcs.Arc.{Arc}
-use Rattle.graph_flow.specs.Paths.{Path, Digraph, IsGraph, MayShare, nodes_of}
+use Rattle.graph_flow.specs.Paths.{ArcPath, Digraph, IsGraph, MayShare, nodes_of}
 use Rattle.arc_base.specs.Lists.{AreDistinct}
 use Rattle.graph_flow.specs.Flows.{Units, unit_at, entering, only_at, IsFlow}
 use Rattle.graph_flow.specs.Residual.{reversed, taken_back, residual_of, residual, sent}
@@ -145,7 +145,7 @@ common_end g a b is on_a on_b e =
 
 -- a way over the residual network that passes no node twice can be sent
 pub route : (g : Digraph) (units : Units) → IsGraph g → OnArcs g.arcs units → All (λ arc. arc.link.0 < length units) g.arcs →
-    (u v : ℕ) (way : List Arc) → Path (residual units g.arcs) u way v → AreDistinct (nodes_of u way) → IsRoute g.arcs units way
+    (u v : ℕ) (way : List Arc) → ArcPath (residual units g.arcs) u way v → AreDistinct (nodes_of u way) → IsRoute g.arcs units way
 route g units is on room u v [] p d = record {
   room = All-nil (HasRoom g.arcs units);
   places = All-nil (λ a. a.link.0 < length units);
@@ -183,7 +183,7 @@ point-more many place node =
 
 -- what one more unit from s to t over a way makes of a flow
 pub augmented : (g : Digraph) (units : Units) (s t many : ℕ) → IsGraph g → IsFlow g.arcs s t many units → All (λ arc. arc.link.0 < length units) g.arcs →
-    (way : List Arc) → Path (residual units g.arcs) s way t → AreDistinct (nodes_of s way) → IsFlow g.arcs s t (many + 1) (sent units way)
+    (way : List Arc) → ArcPath (residual units g.arcs) s way t → AreDistinct (nodes_of s way) → IsFlow g.arcs s t (many + 1) (sent units way)
 augmented g units s t many is flow room way p d =
     let on : OnArcs g.arcs units = record { is_arc = flow.is_arc; of_link = flow.of_link } in
     let r : IsRoute g.arcs units way = route g units is on room s t way p d in
@@ -197,7 +197,7 @@ augmented g units s t many is flow room way p d =
 
 -- no unit comes to enter the source
 pub source_kept : (g : Digraph) (units : Units) (s t many : ℕ) → IsGraph g → IsFlow g.arcs s t many units → All (λ arc. arc.link.0 < length units) g.arcs →
-    (way : List Arc) → Path (residual units g.arcs) s way t → AreDistinct (nodes_of s way) → entering (sent units way) s ≤ entering units s
+    (way : List Arc) → ArcPath (residual units g.arcs) s way t → AreDistinct (nodes_of s way) → entering (sent units way) s ≤ entering units s
 source_kept g units s t many is flow room way p d =
     let on : OnArcs g.arcs units = record { is_arc = flow.is_arc; of_link = flow.of_link } in
     entering-sent g.arcs units way s (route g units is on room s t way p d)

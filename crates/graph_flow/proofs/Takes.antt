@@ -6,7 +6,7 @@ use Rattle.std.proofs.lemmas.List.{get_or_past, set_past}
 use Rattle.std.proofs.lemmas.List.Elements.{All-contains, All-cons, All-nil, All-head, All-tail, All-map, Contains-append_cases}
 use Rattle.arc_base.specs.declared.place.Link.{Link}
 use Rattle.graph_flow.specs.declared.arcs.Arc.{Arc}
-use Rattle.graph_flow.specs.Paths.{Path, Digraph, IsGraph, nodes_of, links_of, all_links, IsPath, AreDisjointPaths}
+use Rattle.graph_flow.specs.Paths.{ArcPath, Digraph, IsGraph, nodes_of, links_of, links_of_paths, IsArcPath, AreDisjointPaths}
 use Rattle.arc_base.specs.Lists.{AreDistinct}
 use Rattle.graph_flow.specs.Sides.{Separates}
 use Rattle.graph_flow.specs.Flows.{Units, unit_at, IsFlow}
@@ -90,7 +90,7 @@ laden-rest units arc way laden =
     }
 
 -- taking the units of a way from u to v away is one unit more from v to u
-pub cleared-shifts : (over : List Arc) (units : Units) (u v : ℕ) (way : List Arc) → IsLaden units way → Path over u way v → Shifts units (cleared units (links_of way)) v u
+pub cleared-shifts : (over : List Arc) (units : Units) (u v : ℕ) (way : List Arc) → IsLaden units way → ArcPath over u way v → Shifts units (cleared units (links_of way)) v u
 cleared-shifts over units u v [] laden p = subst (λ (n : ℕ). Shifts units units n u) p (Shifts-same units u)
 cleared-shifts over units u v (arc ∷ way) laden p =
     let here_on : unit_at units arc.link.0 ≡ Some arc = All-head (λ (b : Arc). unit_at units b.link.0 ≡ Some b) arc way laden.units_on in
@@ -105,7 +105,7 @@ unit_of_carried arcs units on arc m = let at = carried-at units arc m in ap (λ 
 
 -- a way over arcs that carry units, which passes no node twice, is laden
 pub laden : (arcs over : List Arc) (units : Units) → OnArcs arcs units → ((arc : Arc) → Contains over arc → Contains (carried units) arc) →
-    (u v : ℕ) (way : List Arc) → Path over u way v → AreDistinct (nodes_of u way) → IsLaden units way
+    (u v : ℕ) (way : List Arc) → ArcPath over u way v → AreDistinct (nodes_of u way) → IsLaden units way
 laden arcs over units on sub u v [] p d = record { units_on = All-nil (λ (b : Arc). unit_at units b.link.0 ≡ Some b); apart = AllPairs-nil (λ (a b : Arc). b.link.0 ≡ a.link.0 → ⊥) }
 laden arcs over units on sub u v (arc ∷ way) p d =
     let tail_d : AreDistinct (nodes_of arc.head way) = AllPairs-tail (λ x y. x ≢ y) u (nodes_of arc.head way) d in
@@ -121,7 +121,7 @@ laden arcs over units on sub u v (arc ∷ way) p d =
     }
 
 -- a flow without the units of such a way from s to t is one of a unit less
-pub taken : (arcs over : List Arc) (units : Units) (s t many : ℕ) → IsFlow arcs s t (many + 1) units → (way : List Arc) → IsLaden units way → Path over s way t →
+pub taken : (arcs over : List Arc) (units : Units) (s t many : ℕ) → IsFlow arcs s t (many + 1) units → (way : List Arc) → IsLaden units way → ArcPath over s way t →
     IsFlow arcs s t many (cleared units (links_of way))
 taken arcs over units s t many flow way laden p =
     let shifts : Shifts units (cleared units (links_of way)) t s = cleared-shifts over units s t way laden p in
@@ -154,7 +154,7 @@ link_of_way (arc ∷ way) k m =
 pub record Decomposed (arcs : List Arc) (s t many : ℕ) (units : Units) : Type 0 where
   pub paths : List (List Link)
   pub right : AreDisjointPaths arcs s t many paths
-  pub laden_links : (k : Link) → Contains (all_links paths) k → (arc : Arc) × (unit_at units k.0 ≡ Some arc)
+  pub laden_links : (k : Link) → Contains (links_of_paths paths) k → (arc : Arc) × (unit_at units k.0 ≡ Some arc)
 
 -- a flow that has a unit leads a way from s to t
 pub way_of_flow : (g : Digraph) (s t many : ℕ) (units : Units) → IsGraph g → s < g.nodes → t < g.nodes → IsFlow g.arcs s t (many + 1) units → Simple (carried units) s t
@@ -172,7 +172,7 @@ way_of_flow g s t many units is ls lt flow =
 pub decomposed : (g : Digraph) (s t : ℕ) → IsGraph g → s < g.nodes → t < g.nodes → (many : ℕ) (units : Units) → IsFlow g.arcs s t many units → Decomposed g.arcs s t many units
 decomposed g s t is ls lt zero units flow = record {
   paths = [];
-  right = record { count = refl; each = All-nil (λ path. IsPath g.arcs s path t); disjoint = AllPairs-nil (λ (k l : Link). k ≢ l) };
+  right = record { count = refl; each = All-nil (λ path. IsArcPath g.arcs s path t); disjoint = AllPairs-nil (λ (k l : Link). k ≢ l) };
   laden_links = λ k m. absurd (Contains-none k m);
 }
 decomposed g s t is ls lt (suc many) units flow =
@@ -186,7 +186,7 @@ decomposed g s t is ls lt (suc many) units flow =
       paths = links_of one.way ∷ rest.paths;
       right = record {
         count = ap suc rest.right.count;
-        each = All-cons (λ path. IsPath g.arcs s path t) (links_of one.way) rest.paths
+        each = All-cons (λ path. IsArcPath g.arcs s path t) (links_of one.way) rest.paths
             (record {
               way = one.way;
               of_links = refl;
@@ -195,11 +195,11 @@ decomposed g s t is ls lt (suc many) units flow =
               once = one.once;
             })
             rest.right.each;
-        disjoint = AllPairs-append (λ (k l : Link). k ≢ l) (links_of one.way) (all_links rest.paths) (laden-different one.way load.apart) rest.right.disjoint
+        disjoint = AllPairs-append (λ (k l : Link). k ≢ l) (links_of one.way) (links_of_paths rest.paths) (laden-different one.way load.apart) rest.right.disjoint
             (λ k l m n e. let later = rest.laden_links l n in is-none later.0 (unit_at (cleared units (links_of one.way)) l.0)
             (subst (λ (x : Link). unit_at (cleared units (links_of one.way)) x.0 ≡ None) e (cleared-none units (links_of one.way) k m)) later.1);
       };
-      laden_links = λ k m. elim (Contains-append_cases (links_of one.way) (all_links rest.paths) k m) [
+      laden_links = λ k m. elim (Contains-append_cases (links_of one.way) (links_of_paths rest.paths) k m) [
         | inl a ↦ let l = link_of_way one.way k a in
             (l.0, subst (λ (x : Link). unit_at units x.0 ≡ Some l.0) l.2 (All-contains (λ (b : Arc). unit_at units b.link.0 ≡ Some b) one.way l.0 load.units_on l.1))
         | inr b ↦ let later = rest.laden_links k b in (later.0, cleared-sub units (links_of one.way) k.0 later.0 later.1)

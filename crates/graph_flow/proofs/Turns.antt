@@ -6,7 +6,7 @@ use Rattle.std.proofs.lemmas.List.Sums.{sum_by-set}
 use Rattle.std.proofs.lemmas.List.Elements.{All-contains, All-head, All-tail}
 use Rattle.std.proofs.lemmas.Bool.{cases_eq, ne_eqb}
 use Rattle.graph_flow.specs.declared.arcs.Arc.{Arc}
-use Rattle.graph_flow.specs.Paths.{Path}
+use Rattle.graph_flow.specs.Paths.{ArcPath}
 use Rattle.graph_flow.specs.Flows.{Units, unit_at, unit_from, unit_to, leaving, entering}
 use Rattle.graph_flow.specs.Residual.{reversed, turned, turn, sent}
 use Rattle.graph_flow.proofs.Lists.{Contains-here, Contains-there, AllPairs-head, AllPairs-tail}
@@ -107,7 +107,7 @@ pub place_left : (arcs : List Arc) (units : Units) (arc : Arc) (way : List Arc) 
 place_left arcs units arc way r = subst (λ (n : ℕ). arc.link.0 < n) (sym (length-sent units way)) (All-head (λ a. a.link.0 < length units) arc way r.places)
 
 -- a way that is sent whole takes one unit from its first node to its last
-pub sent-shifts : (arcs over : List Arc) (units : Units) (u v : ℕ) (way : List Arc) → IsRoute arcs units way → Path over u way v → Shifts units (sent units way) u v
+pub sent-shifts : (arcs over : List Arc) (units : Units) (u v : ℕ) (way : List Arc) → IsRoute arcs units way → ArcPath over u way v → Shifts units (sent units way) u v
 sent-shifts arcs over units u v [] r p = subst (λ (n : ℕ). Shifts units units u n) p (Shifts-same units u)
 sent-shifts arcs over units u v (arc ∷ way) r p =
     let rest : Shifts units (sent units way) arc.head v = sent-shifts arcs over units arc.head v way (IsRoute-rest arcs units arc way r) p.2 in

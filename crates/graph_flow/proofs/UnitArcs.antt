@@ -8,7 +8,7 @@ use Rattle.graph_flow.specs.declared.arcs.Arc.{Arc}
 use Rattle.graph_flow.specs.declared.search.Mark.{Mark}
 use Rattle.graph_flow.specs.Flows.{Units, unit_at, leaving, IsFlow}
 use Rattle.graph_flow.specs.Marks.{mark_at, is_seen, way_to, IsMarked, IsSpread}
-use Rattle.graph_flow.specs.Paths.{Digraph, IsGraph, Joins, MayShare, Leads, IsPath, links_of}
+use Rattle.graph_flow.specs.Paths.{Digraph, IsGraph, Joins, MayShare, Leads, IsArcPath, links_of}
 use Rattle.graph_flow.specs.Residual.{touching, touches, may_pass, laden_arc, unit_of, passable}
 use Rattle.graph_flow.proofs.Lists.{AllPairs-members, filter-member}
 use Rattle.graph_flow.proofs.Ways.{Path-over}
@@ -91,7 +91,7 @@ pub found-units : (g : Digraph) (units : Units) (first : Arc) (t : ℕ) (marks :
     IsFlow g.arcs first.tail t (leaving units first.tail) units → unit_at units first.link.0 ≡ Some first →
     IsMarked (filter_map (unit_of units first) g.arcs) first.tail marks →
     (is_seen (mark_at marks t) ≡ false → IsSpread (filter_map (unit_of units first) g.arcs) first.tail marks) →
-    links ≡ links_of (way_to marks t) → IsPath (passable units first) first.tail links t
+    links ≡ links_of (way_to marks t) → IsArcPath (passable units first) first.tail links t
 found-units g units first t marks links graph target flow at marked spread is =
     let on : OnArcs g.arcs units = record { is_arc = flow.is_arc; of_link = flow.of_link } in
     let joins : Joins g.nodes first = All-contains (Joins g.nodes) g.arcs first graph.joined (flow.is_arc first.link.0 first at) in

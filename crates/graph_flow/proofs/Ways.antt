@@ -3,25 +3,25 @@ use Rattle.std.proofs.Common.{◌≡◌, ◌≢◌, ℕ, Bool, true, false, ◌&
 use Rattle.std.specs.Prelude.{◌==◌}
 use Rattle.std.proofs.lemmas.Bool.{cases_eq, eq-eqb, eqb-true, or_cases, and_parts, and_from, false≢true}
 use Rattle.graph_flow.specs.declared.arcs.Arc.{Arc}
-use Rattle.graph_flow.specs.Paths.{Path, Leads, nodes_of}
+use Rattle.graph_flow.specs.Paths.{ArcPath, Leads, nodes_of}
 use Rattle.arc_base.specs.Lists.{AreDistinct}
 use Rattle.graph_flow.proofs.Lists.{Contains-here, Contains-there, Contains-none, Contains-cases, AllPairs-nil, AllPairs-cons, AllPairs-tail, All-from_members}
 
-pub Path-append : (arcs : List Arc) (u v w : ℕ) (xs ys : List Arc) → Path arcs u xs v → Path arcs v ys w → Path arcs u (xs ++ ys) w
-Path-append arcs u v w [] ys p q = subst (λ (n : ℕ). Path arcs n ys w) (sym p) q
+pub Path-append : (arcs : List Arc) (u v w : ℕ) (xs ys : List Arc) → ArcPath arcs u xs v → ArcPath arcs v ys w → ArcPath arcs u (xs ++ ys) w
+Path-append arcs u v w [] ys p q = subst (λ (n : ℕ). ArcPath arcs n ys w) (sym p) q
 Path-append arcs u v w (arc ∷ xs) ys p q = (p.0, p.1, Path-append arcs arc.head v w xs ys p.2 q)
 
 -- one arc more at the end
-pub Path-snoc : (arcs : List Arc) (u : ℕ) (way : List Arc) (arc : Arc) → Path arcs u way arc.tail → Contains arcs arc → Path arcs u (way ++ arc ∷ []) arc.head
+pub Path-snoc : (arcs : List Arc) (u : ℕ) (way : List Arc) (arc : Arc) → ArcPath arcs u way arc.tail → Contains arcs arc → ArcPath arcs u (way ++ arc ∷ []) arc.head
 Path-snoc arcs u way arc p m = Path-append arcs u arc.tail arc.head way (arc ∷ []) p (m, refl, refl)
 
 -- a way over some arcs is a way over more
-pub Path-over : (arcs more : List Arc) → ((arc : Arc) → Contains arcs arc → Contains more arc) → (u v : ℕ) (way : List Arc) → Path arcs u way v → Path more u way v
+pub Path-over : (arcs more : List Arc) → ((arc : Arc) → Contains arcs arc → Contains more arc) → (u v : ℕ) (way : List Arc) → ArcPath arcs u way v → ArcPath more u way v
 Path-over arcs more h u v [] p = p
 Path-over arcs more h u v (arc ∷ way) p = (h arc p.0, p.1, Path-over arcs more h arc.head v way p.2)
 
 -- the arcs of a way are among those that it goes over
-pub Path-members : (arcs : List Arc) (u v : ℕ) (way : List Arc) → Path arcs u way v → (arc : Arc) → Contains way arc → Contains arcs arc
+pub Path-members : (arcs : List Arc) (u v : ℕ) (way : List Arc) → ArcPath arcs u way v → (arc : Arc) → Contains way arc → Contains arcs arc
 Path-members arcs u v [] p arc m = absurd (Contains-none arc m)
 Path-members arcs u v (a ∷ way) p arc m =
     elim (Contains-cases a way arc m) [
@@ -30,7 +30,7 @@ Path-members arcs u v (a ∷ way) p arc m =
     ]
 
 -- each arc of a way begins at a node of it
-pub tail_on_way : (arcs : List Arc) (u v : ℕ) (way : List Arc) → Path arcs u way v → (arc : Arc) → Contains way arc → Contains (nodes_of u way) arc.tail
+pub tail_on_way : (arcs : List Arc) (u v : ℕ) (way : List Arc) → ArcPath arcs u way v → (arc : Arc) → Contains way arc → Contains (nodes_of u way) arc.tail
 tail_on_way arcs u v [] p arc m = absurd (Contains-none arc m)
 tail_on_way arcs u v (a ∷ way) p arc m =
     elim (Contains-cases a way arc m) [
@@ -48,18 +48,18 @@ head_on_way (a ∷ way) arc m =
     ]
 
 -- a way does not leave a set that no arc leaves
-pub stays_inside : (arcs : List Arc) (P : ℕ → Type 0) → ((arc : Arc) → Contains arcs arc → P arc.tail → P arc.head) → (u v : ℕ) (way : List Arc) → Path arcs u way v → P u → P v
+pub stays_inside : (arcs : List Arc) (P : ℕ → Type 0) → ((arc : Arc) → Contains arcs arc → P arc.tail → P arc.head) → (u v : ℕ) (way : List Arc) → ArcPath arcs u way v → P u → P v
 stays_inside arcs P closed u v [] p h = subst P p h
 stays_inside arcs P closed u v (arc ∷ way) p h = stays_inside arcs P closed arc.head v way p.2 (closed arc p.0 (subst P (sym p.1) h))
 
 -- a way that passes no node twice
 pub record Simple (arcs : List Arc) (u v : ℕ) : Type 0 where
   pub way : List Arc
-  pub leads : Path arcs u way v
+  pub leads : ArcPath arcs u way v
   pub once : AreDistinct (nodes_of u way)
 
 -- from each of its nodes the rest of such a way leads on
-rest_from : (arcs : List Arc) (u v : ℕ) (way : List Arc) → Path arcs u way v → AreDistinct (nodes_of u way) → (x : ℕ) → Contains (nodes_of u way) x → Simple arcs x v
+rest_from : (arcs : List Arc) (u v : ℕ) (way : List Arc) → ArcPath arcs u way v → AreDistinct (nodes_of u way) → (x : ℕ) → Contains (nodes_of u way) x → Simple arcs x v
 rest_from arcs u v [] p d x m =
     elim (Contains-cases u [] x m) [
       | inl e ↦ subst (λ (n : ℕ). Simple arcs n v) e (record { way = []; leads = p; once = d })
@@ -84,7 +84,7 @@ member_or_not x (y ∷ ys) =
     ]
 
 -- where some way leads, one leads that passes no node twice
-pub simple_way : (arcs : List Arc) (u v : ℕ) (way : List Arc) → Path arcs u way v → Simple arcs u v
+pub simple_way : (arcs : List Arc) (u v : ℕ) (way : List Arc) → ArcPath arcs u way v → Simple arcs u v
 simple_way arcs u v [] p = record { way = []; leads = p; once = AllPairs-cons (λ a b. a ≢ b) u [] (λ k d l. absurd (omega arith)) (AllPairs-nil (λ a b. a ≢ b)) }
 simple_way arcs u v (arc ∷ way) p =
     let rest : Simple arcs arc.head v = simple_way arcs arc.head v way p.2 in

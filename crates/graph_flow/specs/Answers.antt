@@ -25,5 +25,5 @@ first_link [] = 0
 first_link (link ∷ links) = link.0
 
 -- each path begins with a lower link than the next ones
-abbrev pub AreInOrder : List (List Link) → Type 0
-AreInOrder paths = AllPairs (λ p q. first_link p < first_link q) paths
+abbrev pub AreInLinkOrder : List (List Link) → Type 0
+AreInLinkOrder paths = AllPairs (λ p q. first_link p < first_link q) paths

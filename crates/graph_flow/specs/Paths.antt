@@ -27,13 +27,13 @@ pub record IsGraph (g : Digraph) : Type 0 where
   pub opposite : AllPairs MayShare g.arcs
 
 -- the way is made of the arcs and leads from u to v, each arc beginning where the one before ends
-abbrev pub Path : List Arc → ℕ → List Arc → ℕ → Type 0
-Path arcs u [] v = u ≡ v
-Path arcs u (arc ∷ way) v = Contains arcs arc × (arc.tail ≡ u) × Path arcs arc.head way v
+abbrev pub ArcPath : List Arc → ℕ → List Arc → ℕ → Type 0
+ArcPath arcs u [] v = u ≡ v
+ArcPath arcs u (arc ∷ way) v = Contains arcs arc × (arc.tail ≡ u) × ArcPath arcs arc.head way v
 
 -- some path leads from u to v
 abbrev pub Leads : List Arc → ℕ → ℕ → Type 0
-Leads arcs u v = (way : List Arc) × Path arcs u way v
+Leads arcs u v = (way : List Arc) × ArcPath arcs u way v
 
 -- the links of the way
 abbrev pub links_of : List Arc → List Link
@@ -44,20 +44,20 @@ abbrev pub nodes_of : ℕ → List Arc → List ℕ
 nodes_of u way = u ∷ map (λ arc. arc.head) way
 
 -- the links are those of a path from u to v that passes no node twice
-pub record IsPath (arcs : List Arc) (u : ℕ) (links : List Link) (v : ℕ) : Type 0 where
+pub record IsArcPath (arcs : List Arc) (u : ℕ) (links : List Link) (v : ℕ) : Type 0 where
   pub way : List Arc
   pub of_links : links_of way ≡ links
-  pub leads : Path arcs u way v
+  pub leads : ArcPath arcs u way v
   pub once : AreDistinct (nodes_of u way)
 
 -- the links of all the paths, one path after the other
-abbrev pub all_links : List (List Link) → List Link
-all_links paths = flat_map (λ path. path) paths
+abbrev pub links_of_paths : List (List Link) → List Link
+links_of_paths paths = flat_map (λ path. path) paths
 
 -- `many` paths from s to t that pass no node twice, and no link occurs in two of them, nor twice in
 -- one
 pub record AreDisjointPaths (arcs : List Arc) (s t many : ℕ)
     (paths : List (List Link)) : Type 0 where
   pub count : length paths ≡ many
-  pub each : All (λ path. IsPath arcs s path t) paths
-  pub disjoint : AreDistinct (all_links paths)
+  pub each : All (λ path. IsArcPath arcs s path t) paths
+  pub disjoint : AreDistinct (links_of_paths paths)

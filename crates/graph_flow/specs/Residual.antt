@@ -5,7 +5,7 @@ use Rattle.std.specs.Prelude.{List, slice_set, filter, filter_map, Option, Some,
 use Rattle.std.specs.Prelude.{◌++◌, slice_index_or, not}
 use Rattle.arc_base.specs.declared.place.Link.{Link}
 use Rattle.graph_flow.specs.declared.arcs.Arc.{Arc}
-use Rattle.graph_flow.specs.Paths.{IsPath}
+use Rattle.graph_flow.specs.Paths.{IsArcPath}
 use Rattle.arc_base.specs.Lists.{AreDistinct}
 use Rattle.graph_flow.specs.Answers.{first_link}
 use Rattle.graph_flow.specs.Flows.{Units, unit_at, leaving, IsFlow}
@@ -92,7 +92,7 @@ cleared units (link ∷ links) = cleared (slice_set units link.0 None) links
 -- what is left of the units once a path that begins with the given arc was taken out
 pub record TakesPath (arcs : List Arc) (first : Arc) (t : ℕ) (units : Units) (links : List Link)
     (rest : Units) : Type 0 where
-  pub path : IsPath arcs first.tail links t
+  pub path : IsArcPath arcs first.tail links t
   pub begins : first_link links ≡ first.link.0
   pub different : AreDistinct links
   pub gone : unit_at rest first.link.0 ≡ None

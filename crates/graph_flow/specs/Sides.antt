@@ -10,7 +10,7 @@ pub record Separates (s t : ℕ) (side : ℕ → Bool) : Type 0 where
   pub target : IsFalse (side t)
 
 -- the arc leads out of the set
-pub record Leaves (side : ℕ → Bool) (arc : Arc) : Type 0 where
+pub record LeadsOut (side : ℕ → Bool) (arc : Arc) : Type 0 where
   pub from_inside : IsTrue (side arc.tail)
   pub to_outside : IsFalse (side arc.head)
 
@@ -18,13 +18,13 @@ pub record Leaves (side : ℕ → Bool) (arc : Arc) : Type 0 where
 pub record IsLeftOver (arcs : List Arc) (side : ℕ → Bool) (link : Link) : Type 0 where
   pub arc : Arc
   pub is_arc : Contains arcs arc
-  pub leaves : Leaves side arc
+  pub leaves : LeadsOut side arc
   pub of_link : arc.link ≡ link
 
 -- the links are those of the arcs that lead out of the set, in rising order
 pub record AreLeftOver (arcs : List Arc) (side : ℕ → Bool) (links : List Link) : Type 0 where
   pub only : All (IsLeftOver arcs side) links
-  pub each : (arc : Arc) → Contains arcs arc → Leaves side arc → Contains links arc.link
+  pub each : (arc : Arc) → Contains arcs arc → LeadsOut side arc → Contains links arc.link
   pub rising : AllPairs (λ k l. k.0 < l.0) links
 
 -- the links separate the target from the source, no fewer links separate them, and the set is part

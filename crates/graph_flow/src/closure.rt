@@ -2,7 +2,7 @@
 ghost use Rattle.arc_base.specs.declared.place.Link.{Link};
 ghost use Rattle.graph_flow.specs.Marks.{AreSteps, depth_of, mark_at, way_to};
 ghost use Rattle.graph_flow.specs.OpenLinks.{open_arcs};
-ghost use Rattle.graph_flow.specs.Paths.{Leads, IsPath, links_of};
+ghost use Rattle.graph_flow.specs.Paths.{Leads, IsArcPath, links_of};
 ghost use Rattle.std.specs.Prelude.{◌≡◌, ℕ, ◌<◌, length, IfOk, IsSome, IsTrue, Some, None, Option};
 ghost use Rattle.std.specs.Prelude.{List, ◌↔◌, ◌^◌, slice_index_or, replicate, reverse, vec_len};
 
@@ -52,7 +52,7 @@ impl Closure {
         ensures reached { (node : ℕ) → node < g.now.nodes →
             IsSome (slice_index_or self.new node None) ↔ Leads g.now.arcs from node }
         ensures paths { (node : ℕ) (links : List Link) →
-            slice_index_or self.new node None ≡ Some links → IsPath g.now.arcs from links node }
+            slice_index_or self.new node None ≡ Some links → IsArcPath g.now.arcs from links node }
     {
         self.search.run(g, &[], from);
     }
@@ -68,7 +68,7 @@ impl Closure {
             ↔ Leads (open_arcs table.now g.now.arcs) from node }
         ensures paths { (node : ℕ) (links : List Link) →
             slice_index_or self.new node None ≡ Some links →
-            IsPath (open_arcs table.now g.now.arcs) from links node }
+            IsArcPath (open_arcs table.now g.now.arcs) from links node }
     {
         self.search.run_open(g, table, from);
     }

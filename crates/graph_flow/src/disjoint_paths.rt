@@ -1,6 +1,6 @@
 //! Link-disjoint paths between two nodes, or the cut that rules them out (Menger's theorem): a flow
 //! grows by one augmenting path for each of them.
-ghost use Rattle.graph_flow.specs.Answers.{IfPaths, IfCut, AreInOrder};
+ghost use Rattle.graph_flow.specs.Answers.{IfPaths, IfCut, AreInLinkOrder};
 ghost use Rattle.graph_flow.specs.Flows.{IsFlow, IsMadeFor, EndsAt, leaving, flagged, links_out};
 ghost use Rattle.graph_flow.specs.Flows.{out_link, unit_at, AreWithin};
 ghost use Rattle.graph_flow.specs.Laws.{HavePaths};
@@ -26,7 +26,7 @@ pub fn disjoint(alloc: Global, g: &Graph, s: u32, t: u32, want: u32) -> Result<F
     requires apart { s ≢ t }
     requires some { 1 ≤ want }
     ensures paths { IfOk result (λ answer. IfPaths answer (AreDisjointPaths g.now.arcs s t want)) }
-    ensures order { IfOk result (λ answer. IfPaths answer AreInOrder) }
+    ensures order { IfOk result (λ answer. IfPaths answer AreInLinkOrder) }
     ensures cut { IfOk result (λ answer.
         IfCut answer (λ links side. IsLeastSide g.now.arcs s t (flagged side) links)) }
     ensures fewer { IfOk result (λ answer. IfCut answer (λ links side. length links < want)) }

@@ -58,8 +58,8 @@ impl Search {
         count
     }
 
-    /// Looks for a way to a node over units, of which that over the first arc alone leaves the first
-    /// arc's tail, and stops once it has found one.
+    /// Looks for a way to a node over units, of which that over the first arc alone leaves the
+    /// first arc's tail, and stops once it has found one.
     pub(crate) fn seek_units(&mut self, g: &Graph, units: &[Option<Arc>], first: &Arc, to: u32)
         requires from { first.now.tail < g.now.nodes }
         requires to { to < g.now.nodes }

@@ -224,8 +224,8 @@ impl Search {
         count
     }
 
-    /// Follows what an arc gives that begins or ends at the node. Mostly it leads to a node that was
-    /// seen before, which is found without a look at what its link carries.
+    /// Follows what an arc gives that begins or ends at the node. Mostly it leads to a node that
+    /// was seen before, which is found without a look at what its link carries.
     fn step(&mut self, carried: &[Option<Arc>], arc: &Arc, node: u32, count: usize) -> usize
         requires apart { arc.now.tail ≢ arc.now.head }
         requires within { arc.now.head < vec_len self.old.marks }

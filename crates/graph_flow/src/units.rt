@@ -1,5 +1,5 @@
 //! Taking a flow apart into link-disjoint paths.
-ghost use Rattle.graph_flow.specs.Answers.{rows_of, AreInOrder};
+ghost use Rattle.graph_flow.specs.Answers.{rows_of, AreInLinkOrder};
 ghost use Rattle.graph_flow.specs.Flows.{IsFlow, unit_at, leaving};
 ghost use Rattle.graph_flow.specs.Paths.{AreDisjointPaths};
 ghost use Rattle.graph_flow.specs.Residual.{leaving_arc, cleared, TakesPath};
@@ -27,7 +27,7 @@ pub(crate) fn into_paths(
     requires few { leaving units.old s < 2 ^ 32 }
     ensures paths { IfOk result (λ paths.
         AreDisjointPaths g.now.arcs s t (leaving units.old s) (rows_of paths)) }
-    ensures order { IfOk result (λ paths. AreInOrder (rows_of paths)) }
+    ensures order { IfOk result (λ paths. AreInLinkOrder (rows_of paths)) }
 {
     let mut search = Search::make(alloc, g.nodes())?;
     let mut paths = List::make(alloc);

@@ -8,7 +8,7 @@ use Rattle.arc_base.proofs.Items.{Contains-cases, Contains-none, Contains-head, 
 use Rattle.ios_lines.specs.declared.line.Lines.{Lines}
 use Rattle.ios_lines.specs.Texts.{text_lines}
 use Rattle.ios_lines.specs.Kinds.{open_banner}
-use Rattle.ios_lines.specs.Views.{Mark, marks_of, open_block}
+use Rattle.ios_lines.specs.Views.{Mark, line_marks, open_block}
 use Rattle.ios_lines.specs.Changes.{MayStandAt}
 use Rattle.ios_lines.specs.ChangeLaws.{CanBeCut, IsPlaceOf}
 use Rattle.ios_lines.proofs.ChangedTexts.{an-inserted-line as line-stands, inner-may, rows-tell}
@@ -56,7 +56,7 @@ pub record CommandPlace (lines : List (List ℕ)) (c : FileCommand) : Type 0 whe
 pub command-place : (text : List ℕ) (lines : Lines) (commands : List FileCommand) (c : FileCommand) → CanBeCut text → (new : List ℕ) (more : Lines) →
     HaveLines text new lines more commands → Contains commands c → CommandPlace (text_lines text) c
 command-place text lines commands c cut new more have among =
-    let marks = marks_of text lines in
+    let marks = line_marks text lines in
     let (l, there, r) = zip-found (IsMarkRead marks) (command_marks marks) commands c ((commands-of-marks text lines commands).0 have.reads) among in
     let (numbered, says) = from_filter (λ (x : ℕ × Mark). not x.1.inert) (numbered_marks marks) l there in
     let (place, number, at) = numbered-at 1 marks l.0 l.1 numbered in

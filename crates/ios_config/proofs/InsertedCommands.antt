@@ -6,7 +6,7 @@ use Rattle.std.proofs.lemmas.List.{take-append-drop, map-append, take-map, drop-
 use Rattle.std.proofs.lemmas.List.Elements.{filter-append, Contains-append_left, Contains-append_right, Contains-append_cases}
 use Rattle.std.specs.List.{AllZip, AllByRecursion, enumerate_from}
 use Rattle.arc_base.proofs.Items.{Contains-map, Contains-tail}
-use Rattle.ios_lines.specs.Views.{Mark, marks_of}
+use Rattle.ios_lines.specs.Views.{Mark, line_marks}
 use Rattle.ios_lines.specs.Changes.{inserted, moved, mark_moved}
 use Rattle.ios_lines.proofs.Insertions.{moved-low, moved-high}
 use Rattle.ios_words.specs.declared.kinds.BlockKind.{BlockKind}
@@ -216,12 +216,12 @@ module _ (place : ℕ) (m : Mark) (old new : List Mark) (cs : List FileCommand) 
 pub an-inert-line : AnInertLineLeavesCommands
 an-inert-line old new lines more place m commands one silent are =
     (commands-of-marks new more (map (command_moved place) commands)).1
-    (with-none place m (marks_of old lines) (marks_of new more) commands one.within one.rows ((commands-of-marks old lines commands).0 are) silent)
+    (with-none place m (line_marks old lines) (line_marks new more) commands one.within one.rows ((commands-of-marks old lines commands).0 are) silent)
 
 pub an-inserted-line : AnInsertedLineAddsItsCommand
 an-inserted-line old new lines more place m c commands one told this are =
     (commands-of-marks new more (with_command place c commands)).1
-    (with-one place m (marks_of old lines) (marks_of new more) commands one.within one.rows ((commands-of-marks old lines commands).0 are) told c this)
+    (with-one place m (line_marks old lines) (line_marks new more) commands one.within one.rows ((commands-of-marks old lines commands).0 are) told c this)
 
 -- the commands of rows are those before a place and those after it
 pub marks-split : (marks : List Mark) (cs : List FileCommand) (place : ℕ) → AreMarksRead marks cs → Split place cs
@@ -246,4 +246,4 @@ marks-split marks cs place read =
     }
 
 pub commands-split : CommandsAreSplit
-commands-split text lines cs place are = marks-split (marks_of text lines) cs place ((commands-of-marks text lines cs).0 are)
+commands-split text lines cs place are = marks-split (line_marks text lines) cs place ((commands-of-marks text lines cs).0 are)

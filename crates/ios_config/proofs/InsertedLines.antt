@@ -8,7 +8,7 @@ use Rattle.ios_lines.specs.declared.line.Lines.{Lines}
 use Rattle.ios_lines.specs.Texts.{text_lines}
 use Rattle.ios_lines.specs.Kinds.{is_head, is_inert}
 use Rattle.ios_lines.specs.Reading.{block_after}
-use Rattle.ios_lines.specs.Views.{Mark, marks_of, mark_seen, open_block}
+use Rattle.ios_lines.specs.Views.{Mark, line_marks, mark_seen, open_block}
 use Rattle.ios_lines.specs.Changes.{inserted, mark_moved, seen_there}
 use Rattle.ios_lines.proofs.ChangedTexts.{an-inserted-line as line-stands}
 use Rattle.ios_lines.proofs.Insertions.{moved-low, open-low}
@@ -61,15 +61,15 @@ module _ (old new : List ℕ) (lines more : Lines) (commands : List FileCommand)
   abbrev m : Mark
   m = mark_seen (seen_there (text_lines old) place line)
 
-  rows-more : marks_of new more ≡ inserted place m (map (mark_moved place) (marks_of old lines))
+  rows-more : line_marks new more ≡ inserted place m (map (mark_moved place) (line_marks old lines))
   rows-more = (line-stands old new place line put.may put.new_lines put.cut).rows lines more have.old_lines have.new_lines
 
   one-more : HasOneMore old new lines more place m
   one-more =
-      let long : length (marks_of old lines) ≡ length (text_lines old) = length-map lines.rows _ ∙ sym (length-map lines.rows _) ∙ ap length have.old_lines.texts in
+      let long : length (line_marks old lines) ≡ length (text_lines old) = length-map lines.rows _ ∙ sym (length-map lines.rows _) ∙ ap length have.old_lines.texts in
       record { within = subst (λ n. place ≤ n) (sym long) put.may.within; rows = rows-more }
 
-  read-old : AreMarksRead (marks_of old lines) commands
+  read-old : AreMarksRead (line_marks old lines) commands
   read-old = (commands-of-marks old lines commands).0 have.reads
 
   block-low : open_block (take place (text_lines old)) ≤ place
@@ -81,17 +81,17 @@ inner-adds old new lines more commands place line within command put have is o r
     let some : block ≢ 0 = put.may.inner is in
     let low = block-low old new lines more commands place line put have in
     let one = one-more old new lines more commands place line put have in
-    let opens : MarkOpens (marks_of new more) block within =
-    subst (λ n. MarkOpens (marks_of new more) n within) (moved-low place block low) (still-opens place (m old new lines more commands place line put have)
-    (marks_of old lines) (marks_of new more) one.rows block within
-    (head-opens (marks_of old lines) commands block within (read-old old new lines more commands place line put have) o)) in
+    let opens : MarkOpens (line_marks new more) block within =
+    subst (λ n. MarkOpens (line_marks new more) n within) (moved-low place block low) (still-opens place (m old new lines more commands place line put have)
+    (line_marks old lines) (line_marks new more) one.rows block within
+    (head-opens (line_marks old lines) commands block within (read-old old new lines more commands place line put have) o)) in
     an-inserted-line old new lines more place (m old new lines more commands place line put have) (command_at (place + 1) block command) commands one
     (ap is_inert is) (record {
       line = refl;
       block = ap (λ k. block_after k (place + 1) block) (sym is);
       within = within;
-      stands = subst (λ k. MatchBool (is_head k || (block_after k (place + 1) block == 0)) (within ≡ kinds.Top) (MarkOpens (marks_of new more) (block_after k (place + 1) block) within)) (sym is)
-          (subst (λ b. MatchBool b (within ≡ kinds.Top) (MarkOpens (marks_of new more) block within)) (sym (ne_eqb block 0 some)) opens);
+      stands = subst (λ k. MatchBool (is_head k || (block_after k (place + 1) block == 0)) (within ≡ kinds.Top) (MarkOpens (line_marks new more) (block_after k (place + 1) block) within)) (sym is)
+          (subst (λ b. MatchBool b (within ≡ kinds.Top) (MarkOpens (line_marks new more) block within)) (sym (ne_eqb block 0 some)) opens);
       reads = reads;
     }) have.reads
 
@@ -105,7 +105,7 @@ head-adds old new lines more commands place line command put have is reads =
       block = ap (λ k. block_after k (place + 1) block) (sym is);
       within = kinds.Top;
       stands = subst (λ k. MatchBool (is_head k || (block_after k (place + 1) block == 0)) (kinds.Top ≡ kinds.Top)
-          (MarkOpens (marks_of new more) (block_after k (place + 1) block) kinds.Top)) (sym is) refl;
+          (MarkOpens (line_marks new more) (block_after k (place + 1) block) kinds.Top)) (sym is) refl;
       reads = reads;
     }) have.reads
 
@@ -119,7 +119,7 @@ single-adds old new lines more commands place line command put have is reads =
       block = ap (λ k. block_after k (place + 1) block) (sym is);
       within = kinds.Top;
       stands = subst (λ k. MatchBool (is_head k || (block_after k (place + 1) block == 0)) (kinds.Top ≡ kinds.Top)
-          (MarkOpens (marks_of new more) (block_after k (place + 1) block) kinds.Top)) (sym is) refl;
+          (MarkOpens (line_marks new more) (block_after k (place + 1) block) kinds.Top)) (sym is) refl;
       reads = reads;
     }) have.reads
 

@@ -4,7 +4,7 @@ use Rattle.std.specs.List.{AllZip, enumerate_from}
 use Rattle.arc_base.proofs.Items.{Contains-map, from_map}
 use Rattle.ios_lines.specs.declared.line.Line.{Line}
 use Rattle.ios_lines.specs.declared.line.Lines.{Lines}
-use Rattle.ios_lines.specs.Views.{Mark, mark_of, marks_of}
+use Rattle.ios_lines.specs.Views.{Mark, mark_of, line_marks}
 use Rattle.ios_words.specs.declared.kinds.BlockKind.{BlockKind}
 use Rattle.ios_words.specs.declared.kinds.BlockKind.TheVariants as kinds
 use Rattle.ios_words.specs.Commands.{ReadBy}
@@ -21,7 +21,7 @@ enumerate-map : (text : List ℕ) (n : ℕ) (rows : List Line) → enumerate_fro
 enumerate-map text n [] = refl
 enumerate-map text n (row ∷ rows) = ap (λ rest. (n, mark_of text row) ∷ rest) (enumerate-map text (n + 1) rows)
 
-opens-mark : (text : List ℕ) (lines : Lines) (number : ℕ) (kind : BlockKind) → Opens text lines number kind → MarkOpens (marks_of text lines) number kind
+opens-mark : (text : List ℕ) (lines : Lines) (number : ℕ) (kind : BlockKind) → Opens text lines number kind → MarkOpens (line_marks text lines) number kind
 opens-mark text lines number kind o = record {
   head = mark_of text o.head;
   at_number = subst (λ (ls : List (ℕ × Mark)). Contains ls (number, mark_of text o.head)) (sym (enumerate-map text 1 lines.rows))
@@ -31,7 +31,7 @@ opens-mark text lines number kind o = record {
   opens = o.opens;
 }
 
-mark-opens : (text : List ℕ) (lines : Lines) (number : ℕ) (kind : BlockKind) → MarkOpens (marks_of text lines) number kind → Opens text lines number kind
+mark-opens : (text : List ℕ) (lines : Lines) (number : ℕ) (kind : BlockKind) → MarkOpens (line_marks text lines) number kind → Opens text lines number kind
 mark-opens text lines number kind o =
     let found = from_map (numbered_mark text) (numbered lines) (number, o.head) (subst (λ (ls : List (ℕ × Mark)). Contains ls (number, o.head)) (enumerate-map text 1 lines.rows) o.at_number) in
     let same_number : found.0.0 ≡ number = ap (λ (p : ℕ × Mark). p.0) found.2 in
@@ -45,19 +45,19 @@ mark-opens text lines number kind o =
     }
 
 within-mark : (b : Bool) (text : List ℕ) (lines : Lines) (block : ℕ) (kind : BlockKind) → MatchBool b (kind ≡ kinds.Top) (Opens text lines block kind) →
-    MatchBool b (kind ≡ kinds.Top) (MarkOpens (marks_of text lines) block kind)
+    MatchBool b (kind ≡ kinds.Top) (MarkOpens (line_marks text lines) block kind)
 within-mark true text lines block kind is = is
 within-mark false text lines block kind is = opens-mark text lines block kind is
 
 mark-within : (b : Bool) (text : List ℕ) (lines : Lines) (block : ℕ) (kind : BlockKind) →
-    MatchBool b (kind ≡ kinds.Top) (MarkOpens (marks_of text lines) block kind) → MatchBool b (kind ≡ kinds.Top) (Opens text lines block kind)
+    MatchBool b (kind ≡ kinds.Top) (MarkOpens (line_marks text lines) block kind) → MatchBool b (kind ≡ kinds.Top) (Opens text lines block kind)
 mark-within true text lines block kind is = is
 mark-within false text lines block kind is = mark-opens text lines block kind is
 
-read-mark : (text : List ℕ) (lines : Lines) (l : ℕ × Line) (c : FileCommand) → IsReadAs text lines l c → IsMarkRead (marks_of text lines) (numbered_mark text l) c
+read-mark : (text : List ℕ) (lines : Lines) (l : ℕ × Line) (c : FileCommand) → IsReadAs text lines l c → IsMarkRead (line_marks text lines) (numbered_mark text l) c
 read-mark text lines l c r = record { line = r.line; block = r.block; within = r.within; stands = within-mark (l.1.head || (l.1.block == 0)) text lines l.1.block r.within r.stands; reads = r.reads }
 
-mark-read : (text : List ℕ) (lines : Lines) (l : ℕ × Line) (c : FileCommand) → IsMarkRead (marks_of text lines) (numbered_mark text l) c → IsReadAs text lines l c
+mark-read : (text : List ℕ) (lines : Lines) (l : ℕ × Line) (c : FileCommand) → IsMarkRead (line_marks text lines) (numbered_mark text l) c → IsReadAs text lines l c
 mark-read text lines l c r = record { line = r.line; block = r.block; within = r.within; stands = mark-within (l.1.head || (l.1.block == 0)) text lines l.1.block r.within r.stands; reads = r.reads }
 
 -- the rows that say something, and what they say
@@ -71,7 +71,7 @@ filter-mark : (text : List ℕ) (ls : List (ℕ × Line)) → filter (λ l. not 
 filter-mark text [] = refl
 filter-mark text (l ∷ ls) = filter-step text l ls (not l.1.inert) (filter-mark text ls)
 
-pub command-marks : (text : List ℕ) (lines : Lines) → command_marks (marks_of text lines) ≡ map (numbered_mark text) (command_lines lines)
+pub command-marks : (text : List ℕ) (lines : Lines) → command_marks (line_marks text lines) ≡ map (numbered_mark text) (command_lines lines)
 command-marks text lines = ap (filter (λ l. not l.1.inert)) (enumerate-map text 1 lines.rows) ∙ filter-mark text (numbered lines)
 
 -- what holds of items holds of what is made of them
@@ -89,8 +89,8 @@ zip-unmap R S f (x ∷ xs) (y ∷ ys) each all = (each x y all.0, zip-unmap R S 
 
 pub commands-of-marks : CommandsAreOfMarks
 commands-of-marks text lines commands = (
-  λ are. subst (λ (ls : List (ℕ × Mark)). AllZip (IsMarkRead (marks_of text lines)) ls commands) (sym (command-marks text lines))
-      (zip-map (IsReadAs text lines) (IsMarkRead (marks_of text lines)) (numbered_mark text) (command_lines lines) commands (read-mark text lines) are),
-  λ read. zip-unmap (IsReadAs text lines) (IsMarkRead (marks_of text lines)) (numbered_mark text) (command_lines lines) commands (mark-read text lines)
-      (subst (λ (ls : List (ℕ × Mark)). AllZip (IsMarkRead (marks_of text lines)) ls commands) (command-marks text lines) read),
+  λ are. subst (λ (ls : List (ℕ × Mark)). AllZip (IsMarkRead (line_marks text lines)) ls commands) (sym (command-marks text lines))
+      (zip-map (IsReadAs text lines) (IsMarkRead (line_marks text lines)) (numbered_mark text) (command_lines lines) commands (read-mark text lines) are),
+  λ read. zip-unmap (IsReadAs text lines) (IsMarkRead (line_marks text lines)) (numbered_mark text) (command_lines lines) commands (mark-read text lines)
+      (subst (λ (ls : List (ℕ × Mark)). AllZip (IsMarkRead (line_marks text lines)) ls commands) (command-marks text lines) read),
 )

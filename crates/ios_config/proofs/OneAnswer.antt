@@ -12,11 +12,11 @@ use Rattle.ios_words.specs.declared.commands.Command.{Command}
 use Rattle.ios_words.specs.declared.kinds.BlockKind.{BlockKind}
 use Rattle.ios_words.specs.declared.kinds.WordFault.{WordFault}
 use Rattle.ios_words.specs.declared.kinds.WordFault.TheVariants as faults
-use Rattle.ios_words.specs.Commands.{Reads, IsAnswer}
+use Rattle.ios_words.specs.Commands.{ReadsAs, IsAnswer}
 use Rattle.ios_words.proofs.Answers.{one_answer}
 use Rattle.ios_config.specs.declared.commands.FileCommand.{FileCommand}
 use Rattle.ios_config.specs.declared.settings.Config.{Config}
-use Rattle.ios_config.specs.Commands.{command_lines, IsWithin, IsReadAs, AreCommandsOf, IsNoCommand, IsFirstFault}
+use Rattle.ios_config.specs.Commands.{command_lines, IsLineWithin, IsReadAs, AreCommandsOf, IsNoCommand, IsFirstFault}
 use Rattle.ios_config.specs.Configs.{IsConfigOf, IsRefused}
 use Rattle.ios_config.specs.Texts.{config_of}
 use Rattle.ios_config.specs.Twice.{Clash, StandOnce, IsFirstDuplicate}
@@ -60,7 +60,7 @@ ok_not_err : (c : Command) (f : WordFault) → ok c ≡ err f → ⊥
 ok_not_err c f e = absurd (cc)
 
 -- a line is not both a command and none
-command_or_none : (text : List ℕ) (line : Line) (within : BlockKind) (c : Command) (kind : Kind) → Reads text line within c → IsNoCommand text line within kind → ⊥
+command_or_none : (text : List ℕ) (line : Line) (within : BlockKind) (c : Command) (kind : Kind) → ReadsAs text line within c → IsNoCommand text line within kind → ⊥
 command_or_none text line within c kind reads none =
     let h = fault_of text line within kind none in
     ok_not_err c h.fault (one_answer text line within (Ok c) (Err h.fault) reads h.answer (ok_not_memory c) h.not_memory)
@@ -129,15 +129,15 @@ one_duplicate commands n m a b = elim (cases_lt (length a.before) (length b.befo
 module _ (text : List ℕ) (lines : Lines) where
   -- a line that is read is no faulty one
   read_or_fault : (number : ℕ) (line : Line) (c : FileCommand) (within : BlockKind) (kind : Kind) → IsReadAs text lines (number, line) c →
-      IsWithin text lines line within → IsNoCommand text line within kind → ⊥
+      IsLineWithin text lines line within → IsNoCommand text line within kind → ⊥
   read_or_fault number line c within kind read stands none =
       let same : read.within ≡ within = within_one text lines line read.within within read.stands stands in
-      let P : BlockKind → Type 0 = λ k. Reads text line k c.command in
+      let P : BlockKind → Type 0 = λ k. ReadsAs text line k c.command in
       command_or_none text line within c.command kind (subst P same read.reads) none
 
   -- a faulty line among lines that are read
   fault_among : (before : List (ℕ × Line)) (number : ℕ) (line : Line) (after : List (ℕ × Line)) (commands : List FileCommand) (within : BlockKind) (kind : Kind) →
-      AllZip (IsReadAs text lines) (before ++ (number, line) ∷ after) commands → IsWithin text lines line within → IsNoCommand text line within kind → ⊥
+      AllZip (IsReadAs text lines) (before ++ (number, line) ∷ after) commands → IsLineWithin text lines line within → IsNoCommand text line within kind → ⊥
   fault_among [] number line after [] within kind read stands none = read
   fault_among [] number line after (c ∷ commands) within kind read stands none = read_or_fault number line c within kind read.0 stands none
   fault_among (l ∷ before) number line after [] within kind read stands none = read
@@ -156,11 +156,11 @@ module _ (text : List ℕ) (lines : Lines) where
 
   faults_one : (before others : List (ℕ × Line)) (n m : ℕ) (line other : Line) (after rest : List (ℕ × Line)) (cs ds : List FileCommand) (in_line in_other : BlockKind) (k l : Kind) →
       before ++ (n, line) ∷ after ≡ others ++ (m, other) ∷ rest → AllZip (IsReadAs text lines) before cs → AllZip (IsReadAs text lines) others ds →
-      IsWithin text lines line in_line → IsWithin text lines other in_other → IsNoCommand text line in_line k → IsNoCommand text other in_other l → Both n m k l
+      IsLineWithin text lines line in_line → IsLineWithin text lines other in_other → IsNoCommand text line in_line k → IsNoCommand text other in_other l → Both n m k l
   faults_one [] [] n m line other after rest cs ds in_line in_other k l split of_cs of_ds stands places none nothing =
       let here : (n, line) ≡ (m, other) = head_of (n, line) (m, other) after rest split in
       let same : line ≡ other = ap (λ (p : ℕ × Line). p.1) here in
-      let P : Line → Type 0 = λ x. IsWithin text lines x in_line in
+      let P : Line → Type 0 = λ x. IsLineWithin text lines x in_line in
       let within : in_line ≡ in_other = within_one text lines other in_line in_other (subst P same stands) places in
       let Q : Line → Type 0 = λ x. IsNoCommand text x in_line k in
       let R : BlockKind → Type 0 = λ b. IsNoCommand text other b k in

@@ -17,9 +17,9 @@ use Rattle.ios_lines.specs.Lines.{IsRow}
 use Rattle.ios_words.specs.declared.kinds.BlockKind.{BlockKind}
 use Rattle.ios_words.specs.declared.kinds.BlockKind.TheVariants as kinds
 use Rattle.ios_words.specs.declared.commands.Command.{Command}
-use Rattle.ios_words.specs.Commands.{Reads}
+use Rattle.ios_words.specs.Commands.{ReadsAs}
 use Rattle.ios_config.specs.declared.commands.FileCommand.{FileCommand}
-use Rattle.ios_config.specs.Commands.{numbered, is_top, opened_by, Opens, IsWithin, IsReadAs}
+use Rattle.ios_config.specs.Commands.{numbered, is_top, opened_by, Opens, IsLineWithin, IsReadAs}
 use Rattle.ios_config.specs.Reading.{standing, open_after, IsCommandAt}
 
 -- the lines that are to be commands among the first so many
@@ -101,7 +101,7 @@ module _ (text : List ℕ) (lines : Lines) (n : ℕ) (r : Line) (row : IsRow tex
           absurd (false≢true (sym (open_there.unclosed n h (omega arith)) ∙ closed))
 
   -- the block that the line stands in is the open one
-  pub stands_within : IsWithin text lines r (standing r current)
+  pub stands_within : IsLineWithin text lines r (standing r current)
   stands_within = by (is_top r) refl
     where
       inner : (block : ℕ) → r.head ≡ false → block ≢ 0 → IsOpenBlock (kind_at (text_lines text)) (n + 1) block → Opens text lines block current
@@ -123,7 +123,7 @@ module _ (text : List ℕ) (lines : Lines) (n : ℕ) (r : Line) (row : IsRow tex
 
   module _ (at : slice_get lines.rows n ≡ Some r) where
     -- the open block after a line that is a command
-    pub knows_more : (c : Command) → r.inert ≡ false → Reads text r (standing r current) c → KnowsOpen text lines (n + 1) (open_after r c current)
+    pub knows_more : (c : Command) → r.inert ≡ false → ReadsAs text r (standing r current) c → KnowsOpen text lines (n + 1) (open_after r c current)
     knows_more c filled reads = record { knows = λ head h. by head h (cases_lt head n) }
       where
         by : (head : ℕ) → Heads (kind_at (text_lines text)) (n + 1) head → (head < n) ⊎ (n ≤ head) → Opens text lines (suc head) (open_after r c current)
@@ -140,7 +140,7 @@ module _ (text : List ℕ) (lines : Lines) (n : ℕ) (r : Line) (row : IsRow tex
               head = r;
               at_number = at_number lines n r at;
               command = c;
-              reads = subst (λ (k : BlockKind). Reads text r k c) top reads;
+              reads = subst (λ (k : BlockKind). ReadsAs text r k c) top reads;
               opens = changed;
             })
 

@@ -6,7 +6,7 @@ use Rattle.std.proofs.lemmas.List.Elements.{filter-append, Contains-append_left,
 use Rattle.std.proofs.lemmas.Option.{none-some, same_Some}
 use Rattle.std.specs.List.{AllZip, enumerate_from}
 use Rattle.arc_base.proofs.Items.{Contains-cases, Contains-none, Contains-head, Contains-tail, from_filter}
-use Rattle.ios_lines.specs.Views.{Mark, marks_of}
+use Rattle.ios_lines.specs.Views.{Mark, line_marks}
 use Rattle.ios_lines.specs.Changes.{changed, mark_worded}
 use Rattle.ios_lines.specs.ChangeLaws.{HasHead}
 use Rattle.ios_lines.proofs.BlockHeads.{blocks-have-heads}
@@ -135,8 +135,8 @@ module _ (old new : List Mark) (place : ℕ) (m : Mark) (ws : List (List ℕ)) (
 
 pub a-replaced-line : AReplacedLineHasAnotherCommand
 a-replaced-line old new lines more place m ws commands has are =
-    let marks = marks_of old lines in
-    let after = marks_of new more in
+    let marks = line_marks old lines in
+    let after = line_marks new more in
     let Old : ℕ × Mark → FileCommand → Type 0 = IsMarkRead marks in
     let New : ℕ × Mark → FileCommand → Type 0 = IsMarkRead after in
     let blocks = λ (k : ℕ) (x : Mark) (at : slice_get marks k ≡ Some x) (some : x.block ≢ 0). blocks-have-heads old lines k x has.old_lines at some in

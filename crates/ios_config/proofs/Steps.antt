@@ -11,7 +11,7 @@ use Rattle.ios_words.specs.Commands.{HasWordsIn}
 use Rattle.ios_config.specs.declared.fault.ConfigFault.{ConfigFault}
 use Rattle.ios_config.specs.declared.fault.ConfigFault.TheVariants.{Refused, Memory}
 use Rattle.ios_config.specs.declared.commands.FileCommand.{FileCommand}
-use Rattle.ios_config.specs.Commands.{IsReadAs, IsFaultOf}
+use Rattle.ios_config.specs.Commands.{IsReadAs, IsFaultOfFile}
 use Rattle.ios_config.specs.Reading.{standing, open_after, IsCommandAt, IsReading}
 use Rattle.ios_config.proofs.Opened.{lines_to, KnowsOpen, stands_within, knows_more, knows_same, is_read}
 use Rattle.ios_config.proofs.Numbered.{AllZip-more, lines_more, lines_same, lines_after, lines_split}
@@ -52,9 +52,9 @@ module _ (text : List ℕ) (lines : Lines) (n : ℕ) (r : Line) (are : AreLinesO
   }
 
   -- the first line that is no command
-  pub first_fault : (fault : ConfigFault) → r.inert ≡ false → IsReading text r (n + 1) (standing r current) (Err fault) → IsFaultOf text lines fault
+  pub first_fault : (fault : ConfigFault) → r.inert ≡ false → IsReading text r (n + 1) (standing r current) (Err fault) → IsFaultOfFile text lines fault
   first_fault (Refused number kind) filled is =
-      let P : ℕ → Type 0 = λ m. IsFaultOf text lines (Refused m kind) in
+      let P : ℕ → Type 0 = λ m. IsFaultOfFile text lines (Refused m kind) in
       subst P (sym is.0) (record {
         before = lines_to n lines;
         line = r;

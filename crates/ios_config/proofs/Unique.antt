@@ -10,12 +10,12 @@ use Rattle.ios_lines.specs.declared.line.Line.{Line}
 use Rattle.ios_words.specs.declared.kinds.BlockKind.{BlockKind}
 use Rattle.ios_words.specs.declared.kinds.BlockKind.TheVariants as kinds
 use Rattle.ios_words.specs.declared.commands.Command.{Command}
-use Rattle.ios_words.specs.Commands.{Reads, is_extended_block, line_words}
+use Rattle.ios_words.specs.Commands.{ReadsAs, is_extended_block, line_words}
 use Rattle.ios_words.specs.Meanings.{give}
 use Rattle.ios_words.specs.Readings.{read}
 use Rattle.ios_config.specs.declared.commands.FileCommand.{FileCommand}
 use Rattle.ios_config.specs.declared.settings.Config.{Config}
-use Rattle.ios_config.specs.Commands.{numbered, command_lines, is_top, opened_by, Opens, IsWithin, IsReadAs}
+use Rattle.ios_config.specs.Commands.{numbered, command_lines, is_top, opened_by, Opens, IsLineWithin, IsReadAs}
 use Rattle.ios_config.specs.Texts.{config_of}
 use Rattle.ios_config.specs.Configs.{IsConfigOf}
 
@@ -23,7 +23,7 @@ some_one : {X : Type 0} (x y : X) → Some x ≡ Some y → x ≡ y
 some_one x y e = cc
 
 -- a line is read as one command
-pub reads_one : (text : List ℕ) (line : Line) (within : BlockKind) (c d : Command) → Reads text line within c → Reads text line within d → c ≡ d
+pub reads_one : (text : List ℕ) (line : Line) (within : BlockKind) (c d : Command) → ReadsAs text line within c → ReadsAs text line within d → c ≡ d
 reads_one text line within c d a b =
     let rule : a.rule ≡ b.rule = some_one a.rule b.rule (sym a.first ∙ b.first) in
     let values : a.values ≡ b.values =
@@ -51,11 +51,11 @@ number_one lines n r s a b =
 opens_one : (text : List ℕ) (lines : Lines) (n : ℕ) (k l : BlockKind) → Opens text lines n k → Opens text lines n l → k ≡ l
 opens_one text lines n k l a b =
     let head : a.head ≡ b.head = number_one lines n a.head b.head a.at_number b.at_number in
-    let reads : Reads text b.head kinds.Top a.command = subst (λ (line : Line). Reads text line kinds.Top a.command) head a.reads in
+    let reads : ReadsAs text b.head kinds.Top a.command = subst (λ (line : Line). ReadsAs text line kinds.Top a.command) head a.reads in
     a.opens ∙ ap opened_by (reads_one text b.head kinds.Top a.command b.command reads b.reads) ∙ sym b.opens
 
 -- and stands in a block of one kind
-pub within_one : (text : List ℕ) (lines : Lines) (line : Line) (k l : BlockKind) → IsWithin text lines line k → IsWithin text lines line l → k ≡ l
+pub within_one : (text : List ℕ) (lines : Lines) (line : Line) (k l : BlockKind) → IsLineWithin text lines line k → IsLineWithin text lines line l → k ≡ l
 within_one text lines line k l = by (is_top line)
   where
     by : (b : Bool) → MatchBool b (k ≡ kinds.Top) (Opens text lines line.block k) → MatchBool b (l ≡ kinds.Top) (Opens text lines line.block l) → k ≡ l
@@ -68,7 +68,7 @@ command_one text lines l c d a b =
     let line : c.line ≡ d.line = a.line ∙ sym b.line in
     let block : c.block ≡ d.block = a.block ∙ sym b.block in
     let within : a.within ≡ b.within = within_one text lines l.1 a.within b.within a.stands b.stands in
-    let reads : Reads text l.1 b.within c.command = subst (λ (k : BlockKind). Reads text l.1 k c.command) within a.reads in
+    let reads : ReadsAs text l.1 b.within c.command = subst (λ (k : BlockKind). ReadsAs text l.1 k c.command) within a.reads in
     let command : c.command ≡ d.command = reads_one text l.1 b.within c.command d.command reads b.reads in
     λ i. record { line = line i; block = block i; command = command i }
 

@@ -7,14 +7,14 @@ use Rattle.ios_config.specs.declared.commands.FileCommand.{FileCommand}
 use Rattle.ios_config.specs.declared.settings.Config.{Config}
 use Rattle.ios_config.specs.declared.fault.ConfigFault.{ConfigFault}
 use Rattle.ios_config.specs.declared.fault.ConfigFault.TheVariants.{Refused, Memory}
-use Rattle.ios_config.specs.Commands.{AreCommandsOf, IsFaultOf}
+use Rattle.ios_config.specs.Commands.{AreCommandsOf, IsFaultOfFile}
 use Rattle.ios_config.specs.Configs.{IsConfigOf, IsRefused, Configures}
 use Rattle.ios_config.specs.Rising.{NumbersRise, IsFirstNotRising}
 use Rattle.ios_config.specs.Texts.{config_of}
 use Rattle.ios_config.specs.Twice.{StandOnce}
 
 -- the first line that is no command
-pub refused_line : (text : List ℕ) (lines : Lines) (fault : ConfigFault) → IsFaultOf text lines fault → Configures text lines (Err fault)
+pub refused_line : (text : List ℕ) (lines : Lines) (fault : ConfigFault) → IsFaultOfFile text lines fault → Configures text lines (Err fault)
 refused_line text lines (Refused line kind) is = inl is
 refused_line text lines Memory is = tt
 

@@ -12,7 +12,7 @@ use Rattle.ios_words.specs.declared.kinds.BlockKind.TheVariants as kinds
 use Rattle.ios_words.specs.declared.commands.Command.{Command}
 use Rattle.ios_words.specs.declared.commands.Command.TheVariants.{Interface, RouterOspf, RouterBgp}
 use Rattle.ios_words.specs.declared.commands.Command.TheVariants.{ListBlock}
-use Rattle.ios_words.specs.Commands.{Reads, IsUnknown, HasBadWord, HasBadWildcard}
+use Rattle.ios_words.specs.Commands.{ReadsAs, IsUnknown, HasBadWord, HasBadWildcard}
 use Rattle.ios_config.specs.declared.fault.ConfigFault.{ConfigFault}
 use Rattle.ios_config.specs.declared.fault.ConfigFault.TheVariants.{Refused, Memory}
 use Rattle.ios_config.specs.declared.commands.FileCommand.{FileCommand}
@@ -39,7 +39,7 @@ pub record Opens (text : List ℕ) (lines : Lines) (number : ℕ) (kind : BlockK
   pub head : Line
   pub at_number : Contains (numbered lines) (number, head)
   pub command : Command
-  pub reads : Reads text head kinds.Top command
+  pub reads : ReadsAs text head kinds.Top command
   pub opens : kind ≡ opened_by command
 
 -- a line that heads a block or belongs to none is a top line
@@ -47,8 +47,8 @@ abbrev pub is_top : Line → Bool
 is_top line = line.head || (line.block == 0)
 
 -- the line is at the top, or in a block of this kind
-abbrev pub IsWithin : List ℕ → Lines → Line → BlockKind → Type 0
-IsWithin text lines line kind =
+abbrev pub IsLineWithin : List ℕ → Lines → Line → BlockKind → Type 0
+IsLineWithin text lines line kind =
     MatchBool (is_top line) (kind ≡ kinds.Top) (Opens text lines line.block kind)
 
 -- the numbered line is read as this command of the file
@@ -56,8 +56,8 @@ pub record IsReadAs (text : List ℕ) (lines : Lines) (l : ℕ × Line) (c : Fil
   pub line : c.line ≡ l.0
   pub block : c.block ≡ l.1.block
   pub within : BlockKind
-  pub stands : IsWithin text lines l.1 within
-  pub reads : Reads text l.1 within c.command
+  pub stands : IsLineWithin text lines l.1 within
+  pub reads : ReadsAs text l.1 within c.command
 
 -- these are the commands of the file, one for each line that is to be one
 abbrev pub AreCommandsOf : List ℕ → Lines → List FileCommand → Type 0
@@ -79,10 +79,10 @@ pub record IsFirstFault (text : List ℕ) (lines : Lines) (number : ℕ) (kind :
   pub commands : List FileCommand
   pub read : AllZip (IsReadAs text lines) before commands
   pub within : BlockKind
-  pub stands : IsWithin text lines line within
+  pub stands : IsLineWithin text lines line within
   pub fault : IsNoCommand text line within kind
 
 -- the fault is the first of the file's lines, or out of memory
-abbrev pub IsFaultOf : List ℕ → Lines → ConfigFault → Type 0
-IsFaultOf text lines (Refused number kind) = IsFirstFault text lines number kind
-IsFaultOf text lines Memory = Unit {0}
+abbrev pub IsFaultOfFile : List ℕ → Lines → ConfigFault → Type 0
+IsFaultOfFile text lines (Refused number kind) = IsFirstFault text lines number kind
+IsFaultOfFile text lines Memory = Unit {0}

@@ -9,7 +9,7 @@ use Rattle.arc_base.specs.Words.{words}
 use Rattle.ios_lines.specs.Kinds.{IsInner, IsHead, IsSingle, IsClosing}
 use Rattle.ios_lines.specs.Lines.{AreLinesOf}
 use Rattle.ios_lines.specs.ChangeLaws.{CanBeCut}
-use Rattle.ios_lines.specs.Views.{Mark, marks_of, open_block}
+use Rattle.ios_lines.specs.Views.{Mark, line_marks, open_block}
 use Rattle.ios_lines.specs.Changes.{inserted, moved, mark_moved, MayStandAt}
 use Rattle.ios_words.specs.declared.kinds.BlockKind.{BlockKind}
 use Rattle.ios_words.specs.declared.kinds.BlockKind.TheVariants as kinds
@@ -69,14 +69,14 @@ with_command place c (d ∷ commands) =
 
 -- the rows of the new text are those of the old one and one more
 pub record HasOneMore (old new : List ℕ) (lines more : Lines) (place : ℕ) (m : Mark) : Type 0 where
-  pub within : place ≤ length (marks_of old lines)
-  pub rows : marks_of new more ≡ inserted place m (map (mark_moved place) (marks_of old lines))
+  pub within : place ≤ length (line_marks old lines)
+  pub rows : line_marks new more ≡ inserted place m (map (mark_moved place) (line_marks old lines))
 
 -- commands are those of a text exactly where they are those of what its rows say
 abbrev pub CommandsAreOfMarks : Type 0
 CommandsAreOfMarks =
     (text : List ℕ) (lines : Lines) (commands : List FileCommand) →
-    AreCommandsOf text lines commands ↔ AreMarksRead (marks_of text lines) commands
+    AreCommandsOf text lines commands ↔ AreMarksRead (line_marks text lines) commands
 
 -- a row that says nothing leaves the commands, except for their numbers
 abbrev pub AnInertLineLeavesCommands : Type 0
@@ -90,7 +90,7 @@ abbrev pub AnInsertedLineAddsItsCommand : Type 0
 AnInsertedLineAddsItsCommand =
     (old new : List ℕ) (lines more : Lines) (place : ℕ) (m : Mark) (c : FileCommand)
     (commands : List FileCommand) → HasOneMore old new lines more place m → m.inert ≡ false →
-    IsMarkRead (marks_of new more) (place + 1, m) c → AreCommandsOf old lines commands →
+    IsMarkRead (line_marks new more) (place + 1, m) c → AreCommandsOf old lines commands →
     AreCommandsOf new more (with_command place c commands)
 
 -- a command of this line and block

@@ -8,7 +8,7 @@ use Rattle.ios_words.specs.declared.kinds.WordFault.{WordFault}
 use Rattle.ios_words.specs.declared.kinds.WordFault.TheVariants.{Unknown, BadWord}
 use Rattle.ios_words.specs.declared.kinds.WordFault.TheVariants.{WildcardNotPrefix, Memory}
 use Rattle.ios_words.specs.declared.commands.Command.{Command}
-use Rattle.ios_words.specs.Commands.{Reads}
+use Rattle.ios_words.specs.Commands.{ReadsAs}
 use Rattle.ios_config.specs.declared.fault.ConfigFault.{ConfigFault}
 use Rattle.ios_config.specs.declared.fault.ConfigFault.TheVariants as faults
 use Rattle.ios_config.specs.declared.commands.FileCommand.{FileCommand}
@@ -34,7 +34,7 @@ pub record IsCommandAt (text : List ℕ) (line : Line) (number : ℕ) (within : 
     (c : FileCommand) : Type 0 where
   pub number_is : c.line ≡ number
   pub block_is : c.block ≡ line.block
-  pub reads : Reads text line within c.command
+  pub reads : ReadsAs text line within c.command
 
 -- it is answered what the line of this number is read as, or why it is no command
 abbrev pub IsReading : List ℕ → Line → ℕ → BlockKind → Result FileCommand ConfigFault → Type 0

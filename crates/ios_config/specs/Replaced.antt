@@ -2,7 +2,7 @@
 use Rattle.std.specs.Prelude.{◌≡◌, ℕ, ◌+◌, false, List, ◌∷◌, ◌++◌, slice_get, Some}
 use Rattle.ios_lines.specs.declared.line.Lines.{Lines}
 use Rattle.ios_lines.specs.Lines.{AreLinesOf}
-use Rattle.ios_lines.specs.Views.{Mark, marks_of}
+use Rattle.ios_lines.specs.Views.{Mark, line_marks}
 use Rattle.ios_lines.specs.Changes.{changed, mark_worded}
 use Rattle.ios_words.specs.declared.kinds.BlockKind.{BlockKind}
 use Rattle.ios_words.specs.declared.commands.Command.{Command}
@@ -17,8 +17,8 @@ use Rattle.ios_config.specs.Inserted.{IsMarkWithin, command_at}
 pub record HasOtherWords (old new : List ℕ) (lines more : Lines) (place : ℕ) (m : Mark)
     (ws : List (List ℕ)) : Type 0 where
   pub old_lines : AreLinesOf old lines
-  pub rows : marks_of new more ≡ changed place (mark_worded ws) (marks_of old lines)
-  pub at_place : slice_get (marks_of old lines) place ≡ Some m
+  pub rows : line_marks new more ≡ changed place (mark_worded ws) (line_marks old lines)
+  pub at_place : slice_get (line_marks old lines) place ≡ Some m
   pub says : m.inert ≡ false
   pub no_head : m.head ≡ false
 
@@ -33,7 +33,7 @@ pub record HasOtherCommand (old new : List ℕ) (lines more : Lines) (place : �
   pub line : command.line ≡ place + 1
   pub block : command.block ≡ m.block
   pub within : BlockKind
-  pub stands : IsMarkWithin (marks_of old lines) m within
+  pub stands : IsMarkWithin (line_marks old lines) m within
   pub reads : ReadBy (is_extended_block within) m.words (rows within) command.command
   pub other : (c : Command) → ReadBy (is_extended_block within) ws (rows within) c →
       AreCommandsOf new more (front ++ command_at command.line command.block c ∷ back)

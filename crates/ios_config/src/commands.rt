@@ -1,5 +1,5 @@
 //! The commands of a file, line for line.
-ghost use Rattle.ios_config.specs.Commands.{AreCommandsOf, IsFaultOf, opened_by};
+ghost use Rattle.ios_config.specs.Commands.{AreCommandsOf, IsFaultOfFile, opened_by};
 ghost use Rattle.ios_config.specs.Reading.{standing, open_after, refusal, IsReading};
 ghost use Rattle.ios_lines.specs.Lines.{AreLinesOf};
 ghost use Rattle.ios_words.specs.Commands.{HasWordsIn};
@@ -93,7 +93,7 @@ fn read(
 pub fn commands(alloc: Global, text: &[u8], lines: &Lines) -> Result<Vec<FileCommand>, ConfigFault>
     requires { AreLinesOf text.now lines.now }
     ensures ok { IfOk result (λ commands. AreCommandsOf text.now lines.now commands.items) }
-    ensures err { IfErr result (IsFaultOf text.now lines.now) }
+    ensures err { IfErr result (IsFaultOfFile text.now lines.now) }
 {
     let mut commands = Vec::new(alloc);
     let mut current = BlockKind::Top;

@@ -8,7 +8,7 @@ use Rattle.ios_lines.specs.Texts.{text_lines}
 use Rattle.ios_lines.specs.Kinds.{is_head, kind_at}
 use Rattle.ios_lines.specs.Blocks.{Heads, IsOpenBlock}
 use Rattle.ios_lines.specs.Lines.{AreLinesOf}
-use Rattle.ios_lines.specs.Views.{Mark, mark_of, marks_of}
+use Rattle.ios_lines.specs.Views.{Mark, mark_of, line_marks}
 use Rattle.ios_lines.specs.ChangeLaws.{HasHead, BlocksHaveHeads}
 
 -- an item of a list that was made of another's
@@ -23,7 +23,7 @@ get-within (x ∷ xs) zero low = (x, refl)
 get-within (x ∷ xs) (suc k) low = get-within xs k (omega arith)
 
 head-of : (text : List ℕ) (lines : Lines) (place block : ℕ) → AreLinesOf text lines → place < length lines.rows →
-    IsOpenBlock (kind_at (text_lines text)) (place + 1) block → block ≢ 0 → HasHead (marks_of text lines) block
+    IsOpenBlock (kind_at (text_lines text)) (place + 1) block → block ≢ 0 → HasHead (line_marks text lines) block
 head-of text lines place zero are low is some = absurd (some refl)
 head-of text lines place (suc h) are low is some =
     let before : h < place + 1 = is.before in

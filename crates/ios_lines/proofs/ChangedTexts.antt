@@ -18,7 +18,7 @@ use Rattle.arc_base.specs.Words.{words}
 use Rattle.ios_lines.specs.Kinds.{after_line, closes, is_head, is_inert, kind, kind_at, kind_within, open_banner}
 use Rattle.ios_lines.specs.Blocks.{IsOrphan}
 use Rattle.ios_lines.specs.Reading.{block_after, is_alone}
-use Rattle.ios_lines.specs.Views.{marks_of, seen_in, seen_from, seen, Mark, mark_seen, open_from, open_block}
+use Rattle.ios_lines.specs.Views.{line_marks, seen_in, seen_from, seen, Mark, mark_seen, open_from, open_block}
 use Rattle.ios_lines.specs.Changes.{MayStandAt, Change, Insert, Write, lines_after, lines_after_all, marks_after, marks_after_all}
 use Rattle.ios_lines.specs.Changes.{MayCome, MayAllCome, inserted, changed, seen_moved, mark_moved, seen_written, mark_worded, seen_there}
 use Rattle.ios_lines.specs.ChangeLaws.{InnerLinesMayStand, TopLinesMayStand, SeveralChangesStand, CanBeCut, RowsTellPlaces, IsPlaceOf, AnInsertedLineStands, AReplacedLineStands}
@@ -172,7 +172,7 @@ place-of lines place stand low says =
     }
 
 -- what the row at a place says is what its line is seen to say
-pub mark-there : (text : List ℕ) (lines : Lines) (place : ℕ) (m : Mark) → AreLinesOf text lines → slice_get (marks_of text lines) place ≡ Some m →
+pub mark-there : (text : List ℕ) (lines : Lines) (place : ℕ) (m : Mark) → AreLinesOf text lines → slice_get (line_marks text lines) place ≡ Some m →
     (place < length (text_lines text)) × (mark_seen (seen_in (place + 1) (get_or (text_lines text) place []) (kind_at (text_lines text) place) (open_block (take place (text_lines text)))) ≡ m)
 mark-there text lines place m are there =
     let ls = text_lines text in

@@ -14,7 +14,7 @@ use Rattle.ios_lines.specs.Words.{AreWords}
 use Rattle.arc_base.specs.Words.{is_blank, words}
 use Rattle.ios_lines.specs.Kinds.{is_head, is_indented, is_inert, is_mark, kind, kind_at, words_kind, top_kind, is_banner, opens_block}
 use Rattle.ios_lines.specs.Reading.{block_after}
-use Rattle.ios_lines.specs.Views.{Mark, mark_of, marks_of, open_block}
+use Rattle.ios_lines.specs.Views.{Mark, mark_of, line_marks, open_block}
 use Rattle.ios_lines.specs.Changes.{replaced}
 use Rattle.ios_lines.specs.Ended.{IsFree, HasNoReturn}
 use Rattle.ios_lines.specs.Written.{is_plain}
@@ -212,7 +212,7 @@ kind-rewritten text row k span other ends are is plain texts free =
 pub a-word-replaced : AWordMayBeReplaced
 a-word-replaced text lines place row k span other are cut there says word plain free =
     let ls = text_lines text in
-    let mark : slice_get (marks_of text lines) place ≡ Some (mark_of text row) = slice_get-map (mark_of text) lines.rows place ∙ ap (option_map (mark_of text)) there in
+    let mark : slice_get (line_marks text lines) place ≡ Some (mark_of text row) = slice_get-map (mark_of text) lines.rows place ∙ ap (option_map (mark_of text)) there in
     let known = mark-there text lines place (mark_of text row) are mark in
     let told = rows-tell text lines place (mark_of text row) are cut mark says in
     let ends = row-line text 0 lines.rows place row are.join there in

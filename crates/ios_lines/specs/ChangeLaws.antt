@@ -8,7 +8,7 @@ use Rattle.arc_base.specs.Words.{words}
 use Rattle.ios_lines.specs.Kinds.{closes, kind_at, open_banner, IsInner, IsHead, IsSingle}
 use Rattle.ios_lines.specs.Kinds.{IsClosing}
 use Rattle.ios_lines.specs.Lines.{AreLinesOf, HasOrphanAt, HasOpenBannerAt}
-use Rattle.ios_lines.specs.Views.{Mark, marks_of, mark_seen, seen, open_block}
+use Rattle.ios_lines.specs.Views.{Mark, line_marks, mark_seen, seen, open_block}
 use Rattle.ios_lines.specs.Changes.{Change, lines_after_all, marks_after_all, MayAllCome, inserted}
 use Rattle.ios_lines.specs.Changes.{changed, replaced, mark_moved, mark_worded, MayStandAt}
 use Rattle.ios_lines.specs.Changes.{MayReplaceAt, seen_there}
@@ -23,7 +23,7 @@ pub record CanBeCut (text : List ℕ) : Type 0 where
 abbrev pub RowsAreSeen : Type 0
 RowsAreSeen =
     (text : List ℕ) (lines : Lines) → AreLinesOf text lines →
-    marks_of text lines ≡ map mark_seen (seen (text_lines text))
+    line_marks text lines ≡ map mark_seen (seen (text_lines text))
 
 -- the text that ended lines make has these lines
 abbrev pub EndedLinesAreLines : Type 0
@@ -55,7 +55,7 @@ pub record IsPlaceOf (lines : List (List ℕ)) (place : ℕ) (m : Mark) : Type 0
 abbrev pub RowsTellPlaces : Type 0
 RowsTellPlaces =
     (text : List ℕ) (lines : Lines) (place : ℕ) (m : Mark) → AreLinesOf text lines → CanBeCut text →
-    slice_get (marks_of text lines) place ≡ Some m → m.inert ≡ false →
+    slice_get (line_marks text lines) place ≡ Some m → m.inert ≡ false →
     IsPlaceOf (text_lines text) place m
 
 -- the new text has the rows of the old one and the inserted line's between them, which is in the
@@ -63,8 +63,8 @@ RowsTellPlaces =
 pub record HasInserted (old new : List ℕ) (place : ℕ) (line : List ℕ) : Type 0 where
   pub cut : CanBeCut new
   pub rows : (lines more : Lines) → AreLinesOf old lines → AreLinesOf new more →
-      marks_of new more ≡ inserted place (mark_seen (seen_there (text_lines old) place line))
-      (map (mark_moved place) (marks_of old lines))
+      line_marks new more ≡ inserted place (mark_seen (seen_there (text_lines old) place line))
+      (map (mark_moved place) (line_marks old lines))
 
 -- a line that is inserted where it is allowed leaves the others
 abbrev pub AnInsertedLineStands : Type 0
@@ -77,7 +77,7 @@ AnInsertedLineStands =
 pub record HasReplaced (old new : List ℕ) (place : ℕ) (line : List ℕ) : Type 0 where
   pub cut : CanBeCut new
   pub rows : (lines more : Lines) → AreLinesOf old lines → AreLinesOf new more →
-      marks_of new more ≡ changed place (mark_worded (words line)) (marks_of old lines)
+      line_marks new more ≡ changed place (mark_worded (words line)) (line_marks old lines)
 
 -- a line that takes the place of another of its kind leaves all but that line's words
 abbrev pub AReplacedLineStands : Type 0
@@ -90,7 +90,7 @@ AReplacedLineStands =
 pub record HasChanged (old new : List ℕ) (changes : List Change) : Type 0 where
   pub cut : CanBeCut new
   pub rows : (lines more : Lines) → AreLinesOf old lines → AreLinesOf new more →
-      marks_of new more ≡ marks_after_all changes (text_lines old) (marks_of old lines)
+      line_marks new more ≡ marks_after_all changes (text_lines old) (line_marks old lines)
 
 -- changes that may come one after another leave all else
 abbrev pub SeveralChangesStand : Type 0
@@ -138,5 +138,5 @@ pub record HasHead (marks : List Mark) (block : ℕ) : Type 0 where
 abbrev pub BlocksHaveHeads : Type 0
 BlocksHaveHeads =
     (text : List ℕ) (lines : Lines) (place : ℕ) (m : Mark) → AreLinesOf text lines →
-    slice_get (marks_of text lines) place ≡ Some m → m.block ≢ 0 →
-    HasHead (marks_of text lines) m.block
+    slice_get (line_marks text lines) place ≡ Some m → m.block ≢ 0 →
+    HasHead (line_marks text lines) m.block

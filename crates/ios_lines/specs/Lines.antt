@@ -36,8 +36,8 @@ abbrev pub HasOpenBannerAt : List ℕ → ℕ → Type 0
 HasOpenBannerAt text number = IsUnclosed (text_lines text) (length (text_lines text)) number
 
 -- the fault is the first of the text, or out of memory
-abbrev pub IsFaultOf : List ℕ → LineFault → Type 0
-IsFaultOf text (Orphan number) = HasOrphanAt text number
-IsFaultOf text (OpenBanner number) =
+abbrev pub IsFaultOfText : List ℕ → LineFault → Type 0
+IsFaultOfText text (Orphan number) = HasOrphanAt text number
+IsFaultOfText text (OpenBanner number) =
     HasOpenBannerAt text number × ((other : ℕ) → ¬ HasOrphanAt text other)
-IsFaultOf text Memory = Unit {0}
+IsFaultOfText text Memory = Unit {0}

@@ -62,8 +62,8 @@ mark_of text line = record {
   inert = line.inert;
 }
 
-abbrev pub marks_of : List ℕ → Lines → List Mark
-marks_of text lines = map (mark_of text) lines.rows
+abbrev pub line_marks : List ℕ → Lines → List Mark
+line_marks text lines = map (mark_of text) lines.rows
 
 -- what a line says that is seen so
 abbrev pub mark_seen : Seen → Mark

@@ -1,5 +1,5 @@
 //! A router file is cut into its lines.
-ghost use Rattle.ios_lines.specs.Lines.{AreLinesOf, IsFaultOf, HasOrphanAt, HasOpenBannerAt};
+ghost use Rattle.ios_lines.specs.Lines.{AreLinesOf, IsFaultOfText, HasOrphanAt, HasOpenBannerAt};
 ghost use Rattle.std.specs.Prelude.{◌≡◌, ◌<◌, ◌^◌, ℕ, length, IfOk, IfErr, IsOk};
 
 use crate::line::Lines;
@@ -35,7 +35,7 @@ pub fn cut(alloc: Global, bytes: &[u8]) -> Result<Lines, LineFault>
     ensures lines { IfOk result (AreLinesOf bytes.now) }
     ensures no_orphan { IsOk result → (number : ℕ) → ¬ HasOrphanAt bytes.now number }
     ensures no_open_banner { IsOk result → (number : ℕ) → ¬ HasOpenBannerAt bytes.now number }
-    ensures fault { IfErr result (IsFaultOf bytes.now) }
+    ensures fault { IfErr result (IsFaultOfText bytes.now) }
 {
     let mut rows = List::make(alloc);
     let mut state = Open::nothing();

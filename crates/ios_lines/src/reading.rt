@@ -1,6 +1,6 @@
 //! The next line of a file, and what is open after it.
 ghost use Rattle.ios_lines.specs.Kinds.{after_line, kind_within};
-ghost use Rattle.ios_lines.specs.Lines.{IsFaultOf};
+ghost use Rattle.ios_lines.specs.Lines.{IsFaultOfText};
 ghost use Rattle.ios_lines.specs.Reading.{block_after, first_after, is_alone, IsNext, Stands};
 ghost use Rattle.std.specs.Prelude.{◌≡◌, ◌+◌, ◌-◌, ◌<◌, ◌^◌, length, None, IfOk, IfErr};
 
@@ -103,7 +103,7 @@ pub(crate) fn next_line(
     requires more { at < length bytes.now }
     requires stands { Stands bytes.now at state }
     ensures next { IfOk result (λ next. IsNext bytes.now at state next.0 next.1) }
-    ensures fault { IfErr result (IsFaultOf bytes.now) }
+    ensures fault { IfErr result (IsFaultOfText bytes.now) }
 {
     let (to, end) = line_end(bytes, at);
     let text = &bytes[at..to];

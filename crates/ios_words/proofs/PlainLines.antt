@@ -30,7 +30,7 @@ use Rattle.ios_words.proofs.PrintedServices.{services_in}
 use Rattle.ios_words.proofs.ServicesBetween.{is-between}
 use Rattle.ios_words.proofs.Printed.{entry-read, list_line-read}
 use Rattle.ios_words.proofs.PlainParts.{digits-mark, packet-plain, plain-append, side-plain, verdict-mark, verdict-plain}
-use Rattle.ios_words.specs.Plain.{plain_line, plain_words, FitsIn, HasKind, IsReadAs, PlainLinesAreRead}
+use Rattle.ios_words.specs.Plain.{plain_line, plain_words, FitsIn, HasKind, IsReadBack, PlainLinesAreRead}
 use Rattle.ios_words.proofs.ListReads.{list-line-read, prefix-line-read, standard-read, standard_text}
 use Rattle.ios_words.proofs.PlainReads.{address, area, bandwidth, bgp-id, cost, covers, group, hostname, interface, list-head, neighbor-down}
 use Rattle.ios_words.proofs.PlainReads.{neighbor-list, no-address, ospf-id, passive-default, passive-named, point, reference, remote-as, router-bgp, router-ospf, shutdown, tells}
@@ -53,7 +53,7 @@ top : (word : List ℕ) (ws : List (List ℕ)) → is_plain word ≡ true → Ar
 top word ws first rest = (top-written word ws first rest, top-kinds word ws first rest)
 
 read-as : (within : BlockKind) (command : Command) → IsWritten (plain_line within command) (plain_words within command) × HasKind within command (plain_line within command) →
-    ReadBy (is_extended_block within) (plain_words within command) (rows within) command → IsReadAs within command
+    ReadBy (is_extended_block within) (plain_words within command) (rows within) command → IsReadBack within command
 read-as within command line reads = record { written = line.0; kind = line.1; reads = reads }
 
 -- a name that is not a word fails the test of it
@@ -141,10 +141,10 @@ list-reads text e (Some false) is fits h =
     }
 list-reads text e None is fits h = absurd (listed-kind text h is)
 
-list-line : (text : List ℕ) (e : PacketText) → FitsIn (list_kind (number_of text)) e → IsListNumber text → IsReadAs blocks.Top (commands.ListLine text e)
+list-line : (text : List ℕ) (e : PacketText) → FitsIn (list_kind (number_of text)) e → IsListNumber text → IsReadBack blocks.Top (commands.ListLine text e)
 list-line text e fits h = let line = list-reads text e (list_kind (number_of text)) refl fits h in record { written = line.written; kind = line.kind; reads = line.reads }
 
-pub listed-line : (text : List ℕ) (e : PacketText) → FitsIn (Some true) e → list_kind (number_of text) ≡ Some true → IsReadAs blocks.Top (commands.ListLine text e)
+pub listed-line : (text : List ℕ) (e : PacketText) → FitsIn (Some true) e → list_kind (number_of text) ≡ Some true → IsReadBack blocks.Top (commands.ListLine text e)
 listed-line text e fits is =
     let line = subst (λ o. ListRead text e (entry_words o e)) (sym is) (extended-list text e fits is) in
     record { written = line.written; kind = line.kind; reads = line.reads }
@@ -172,7 +172,7 @@ route-plain e h =
     (verdict-plain e.permit, (prefix-plain e.prefix, lengths-plain e.prefix.len e.low e.high (omega (arith, ordered, most)) most))
 
 prefix-line : (name : List ℕ) (order : Option ℕ) (e : RouteText) → name ≢ codes "sequence-number" → is_name name ≡ true → IsOrder 4294967294 order →
-    AreLengths e.prefix e.low e.high → IsReadAs blocks.Top (commands.PrefixLine name order e)
+    AreLengths e.prefix e.low e.high → IsReadBack blocks.Top (commands.PrefixLine name order e)
 prefix-line name order e other is ranged lengths =
     let words = codes "prefix-list" ∷ name ∷ sequence_words order ++ route_words e in
     let rest : ArePlain words = (refl, (name-plain name is, plain-append (sequence_words order) (route_words e) (sequence-plain order ranged) (route-plain e lengths))) in
@@ -183,7 +183,7 @@ prefix-line name order e other is ranged lengths =
     }
 
 -- an entry of an extended list's block
-extended-line : (order : Option ℕ) (e : PacketText) → FitsIn (Some true) e → IsOrder 2147483647 order → IsReadAs blocks.Extended (commands.Entry order e)
+extended-line : (order : Option ℕ) (e : PacketText) → FitsIn (Some true) e → IsOrder 2147483647 order → IsReadBack blocks.Extended (commands.Entry order e)
 extended-line None e fits ranged =
     let line = inner (verdict_word e.permit) _ (packet-plain e) (verdict-mark e.permit) in
     record { written = line.0; kind = line.1; reads = entry-read None e fits ranged }
@@ -193,7 +193,7 @@ extended-line (Some n) e fits ranged =
     record { written = line.0; kind = line.1; reads = entry-read (Some n) e fits ranged }
 
 -- an entry of a standard list's block
-standard-line : (order : Option ℕ) (e : PacketText) → FitsIn (Some false) e → IsOrder 2147483647 order → IsReadAs blocks.Standard (commands.Entry order e)
+standard-line : (order : Option ℕ) (e : PacketText) → FitsIn (Some false) e → IsOrder 2147483647 order → IsReadBack blocks.Standard (commands.Entry order e)
 standard-line None e fits ranged =
     let line = inner (verdict_word e.permit) (side_words e.from) (standard-plain e.permit e.from) (verdict-mark e.permit) in
     record {
@@ -296,7 +296,7 @@ read-plain _ _ stands form fit = absurd stands
 
 -- an entry of one prefix alone, and that of all prefixes
 pub route-line : (name : List ℕ) (order : Option ℕ) (permit : Bool) (p : Prefix) → is_name name ≡ true → name ≢ codes "sequence-number" →
-    IsOrder 4294967294 order → IsReadAs blocks.Top (commands.PrefixLine name order (route_text permit p))
+    IsOrder 4294967294 order → IsReadBack blocks.Top (commands.PrefixLine name order (route_text permit p))
 route-line name order permit p is other ranged =
     let most : p.len ≤ 32 = p.length in
     prefix-line name order (route_text permit p) other is ranged (record { least = omega arith; ordered = omega arith; most = most })
@@ -306,7 +306,7 @@ unfolding holding
 all-length = refl
 
 pub all-routes-line : (name : List ℕ) (order : Option ℕ) → is_name name ≡ true → name ≢ codes "sequence-number" → IsOrder 4294967294 order →
-    IsReadAs blocks.Top (commands.PrefixLine name order all_routes)
+    IsReadBack blocks.Top (commands.PrefixLine name order all_routes)
 all-routes-line name order is other ranged = prefix-line name order all_routes other is ranged (record { least = omega (arith, all-length); ordered = omega arith; most = omega arith })
 
 pub closing-line : IsClosingLine (codes "!")

@@ -60,8 +60,8 @@ AnswerBy extended words rules (Err faults.WildcardNotPrefix) =
 AnswerBy extended words rules (Err faults.Memory) = Unit {0}
 
 -- the line of the text says this in a block of this kind
-abbrev pub Reads : List ℕ → Line → BlockKind → Command → Type 0
-Reads text line within command =
+abbrev pub ReadsAs : List ℕ → Line → BlockKind → Command → Type 0
+ReadsAs text line within command =
     ReadBy (is_extended_block within) (line_words text line) (rows within) command
 
 -- no row of the language matches the line
@@ -83,7 +83,7 @@ HasBadWildcard text line within =
 -- what a line says in a block of this kind, or why it says nothing; out of memory says nothing of
 -- it
 abbrev pub IsAnswer : List ℕ → Line → BlockKind → Result Command WordFault → Type 0
-IsAnswer text line within (Ok command) = Reads text line within command
+IsAnswer text line within (Ok command) = ReadsAs text line within command
 IsAnswer text line within (Err faults.Unknown) = IsUnknown text line within
 IsAnswer text line within (Err (faults.BadWord place)) = HasBadWord text line within place
 IsAnswer text line within (Err faults.WildcardNotPrefix) = HasBadWildcard text line within

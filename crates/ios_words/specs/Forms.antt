@@ -12,7 +12,7 @@ use Rattle.ios_words.specs.declared.commands.Command.TheVariants.{Reference, Rou
 use Rattle.ios_words.specs.declared.commands.Command.TheVariants.{NeighborDown, NeighborList, Tells}
 use Rattle.ios_words.specs.declared.commands.Command.TheVariants.{Entry, Inert}
 use Rattle.ios_words.specs.declared.kinds.BlockKind.{BlockKind}
-use Rattle.ios_words.specs.Commands.{Reads}
+use Rattle.ios_words.specs.Commands.{ReadsAs}
 use Rattle.ios_words.specs.Names.{is_face_name}
 use Rattle.arc_base.specs.NameForms.{is_name}
 
@@ -90,10 +90,10 @@ AddressesFit _ = Unit {0}
 abbrev pub CommandsAreInForm : Type 0
 CommandsAreInForm =
     (text : List ℕ) (line : Line) (within : BlockKind) (command : Command) →
-    Reads text line within command → IsInForm command
+    ReadsAs text line within command → IsInForm command
 
 -- and its addresses and areas have 32 bits
 abbrev pub AllAddressesFit : Type 0
 AllAddressesFit =
     (text : List ℕ) (line : Line) (within : BlockKind) (command : Command) →
-    Reads text line within command → AddressesFit command
+    ReadsAs text line within command → AddressesFit command

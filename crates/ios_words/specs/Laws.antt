@@ -8,7 +8,7 @@ use Rattle.ios_words.specs.declared.kinds.BlockKind.{BlockKind}
 use Rattle.ios_words.specs.declared.kinds.BlockKind.TheVariants as kinds
 use Rattle.ios_words.specs.declared.kinds.WordFault.{WordFault}
 use Rattle.ios_words.specs.declared.kinds.WordFault.TheVariants as faults
-use Rattle.ios_words.specs.Commands.{ReadBy, completes, is_extended_block, line_words, Reads}
+use Rattle.ios_words.specs.Commands.{ReadBy, completes, is_extended_block, line_words, ReadsAs}
 use Rattle.ios_words.specs.Commands.{IsUnknown, IsAnswer}
 use Rattle.ios_words.specs.Language.{rows, inert_in}
 use Rattle.ios_words.specs.Readings.{matches}
@@ -45,7 +45,7 @@ abbrev pub InertCounts : Type 0
 InertCounts =
     (text : List ℕ) (line : Line) (within : BlockKind) (rule : Rule) (command : Command) →
     Contains (inert_in within) rule →
-    Completes text line within rule → Reads text line within command → command ≡ commands.Inert
+    Completes text line within rule → ReadsAs text line within command → command ≡ commands.Inert
 
 -- whether the command heads a block whose lines are read
 abbrev pub heads_block : Command → Bool

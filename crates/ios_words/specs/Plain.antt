@@ -131,7 +131,7 @@ HasKind _ command line = IsInner line
 
 -- the plain line of a command in a block of this kind has the command's words, it is a line of the
 -- kind that the command asks for, and its words are read as the command
-pub record IsReadAs (within : BlockKind) (command : Command) : Type 0 where
+pub record IsReadBack (within : BlockKind) (command : Command) : Type 0 where
   pub written : IsWritten (plain_line within command) (plain_words within command)
   pub kind : HasKind within command (plain_line within command)
   pub reads : ReadBy (is_extended_block within) (plain_words within command) (rows within) command
@@ -140,4 +140,4 @@ pub record IsReadAs (within : BlockKind) (command : Command) : Type 0 where
 abbrev pub PlainLinesAreRead : Type 0
 PlainLinesAreRead =
     (within : BlockKind) (command : Command) → StandsIn within command → IsInForm command →
-    AddressesFit command → IsReadAs within command
+    AddressesFit command → IsReadBack within command

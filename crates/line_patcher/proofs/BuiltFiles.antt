@@ -8,7 +8,7 @@ use Rattle.std.proofs.lemmas.Slice.Zip.{AllZip-long}
 use Rattle.net_model.specs.declared.policies.Document.{Document}
 use Rattle.ios_lines.specs.Lines.{AreLinesOf}
 use Rattle.net_build.specs.declared.built.Built.{Built}
-use Rattle.net_build.specs.Networks.{IsBuilt, Says}
+use Rattle.net_build.specs.Networks.{IsBuilt, HasSettings}
 use Rattle.net_build.specs.Places.{places_of}
 use Rattle.net_rules.specs.Rows.{IsRouterRow}
 use Rattle.line_patcher.specs.Working.{IsFileOf}
@@ -23,7 +23,7 @@ pub is-file : (doc : Document) (files : List (List ℕ)) (built : Built) (router
     IsFileOf built router text
 is-file doc files built router text is low there =
     let configs = is.network.configs in
-    let said = AllZip-long Says files configs is.network.said in
+    let said = AllZip-long HasSettings files configs is.network.said in
     let routers = AllZip-long (IsRouterRow built.net.protocol) configs built.net.routers is.network.rows.base.routers in
     let lines = AllZip-long AreLinesOf files built.lines is.lines in
     let places : length built.places ≡ length configs = ap length is.places ∙ length-map configs places_of in

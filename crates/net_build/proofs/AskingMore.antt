@@ -15,7 +15,7 @@ use Rattle.net_rules.specs.Limits.{long_list, RefusesEntries}
 use Rattle.net_rules.specs.Linking.{first_above, RefusesDownLinks}
 use Rattle.net_build.specs.Networks.{IsNetworkOf, IsNetworkWithin, IsBuilt, IsBuiltWithin}
 use Rattle.net_build.specs.Order.{tries, Refuses, RefusesWithin, AreClear}
-use Rattle.net_rules.specs.Reasons.{IsClear}
+use Rattle.net_rules.specs.Reasons.{NoRefusal}
 
 -- one item, and whether it passes each of two tests
 passed_by_both : {X : Type 0} (p q : Bool) (y x : X) (a b : Option X) → (p ≡ true → q ≡ true) → (a ≡ Some x → b ≡ None → ⊥) → cond p (Some y) a ≡ Some x → cond q (Some y) b ≡ None → ⊥
@@ -34,7 +34,7 @@ module _ (most other : ℕ) (fewer : most ≤ other) (configs : List Config) whe
   longer : (list : ListText) → nat_lt other (length list.entries) ≡ true → nat_lt most (length list.entries) ≡ true
   longer list long = lt-ltb most (length list.entries) (omega (arith, fewer, ltb-true other (length list.entries) long))
 
-  long_refused : (r : Refusal) (bad : RefusesEntries other configs r) (o : Option ListText) → long_list most bad.config ≡ o → IsClear (RefusesEntries most configs) → ⊥
+  long_refused : (r : Refusal) (bad : RefusesEntries other configs r) (o : Option ListText) → long_list most bad.config ≡ o → NoRefusal (RefusesEntries most configs) → ⊥
   long_refused r bad None none clear = found_by_wider (λ (l : ListText). nat_lt other (length l.entries))
       (λ (l : ListText). nat_lt most (length l.entries)) longer bad.config.lists bad.list bad.first none
   long_refused r bad (Some list) first clear =
@@ -42,11 +42,11 @@ module _ (most other : ℕ) (fewer : most ≤ other) (configs : List Config) whe
       (record { place = bad.place; config = bad.config; at_place = bad.at_place; list = list; first = first; told = refl })
 
   -- if no list is too long for the smaller limit, none is for the greater
-  short_enough : IsClear (RefusesEntries most configs) → IsClear (RefusesEntries other configs)
+  short_enough : NoRefusal (RefusesEntries most configs) → NoRefusal (RefusesEntries other configs)
   short_enough clear r bad = long_refused r bad (long_list most bad.config) refl clear
 
 -- no links are to be down
-none_down : (doc : Document) → IsClear (RefusesDownLinks doc [])
+none_down : (doc : Document) → NoRefusal (RefusesDownLinks doc [])
 none_down doc r bad = none-some bad.number bad.above
 
 still_clear : (down : List ℕ) (most : ℕ) (doc : Document) (configs : List Config) → most ≤ 16384 → AreClear (RefusesWithin down most doc configs) tries → AreClear (Refuses doc configs) tries
@@ -112,10 +112,10 @@ built_the_same down most doc files built fewer is = record {
 }
 
 -- if no number of a link that is to be down is refused, none is above the number of links
-above_or_none : (doc : Document) (down : List ℕ) (o : Option ℕ) → first_above (length doc.links) down ≡ o → IsClear (RefusesDownLinks doc down) → o ≡ None
+above_or_none : (doc : Document) (down : List ℕ) (o : Option ℕ) → first_above (length doc.links) down ≡ o → NoRefusal (RefusesDownLinks doc down) → o ≡ None
 above_or_none doc down None is clear = refl
 above_or_none doc down (Some n) is clear =
     absurd (clear (record { file = 0; number = n; kind = kinds.LinkFace }) (record { number = n; above = is; told = refl }))
 
-pub no_number_above : (doc : Document) (down : List ℕ) → IsClear (RefusesDownLinks doc down) → first_above (length doc.links) down ≡ None
+pub no_number_above : (doc : Document) (down : List ℕ) → NoRefusal (RefusesDownLinks doc down) → first_above (length doc.links) down ≡ None
 no_number_above doc down clear = above_or_none doc down (first_above (length doc.links) down) refl clear

@@ -22,7 +22,7 @@ use Rattle.arc_base.specs.Lists.{AreDistinct}
 use Rattle.net_rules.specs.Sites.{full_names}
 use Rattle.net_rules.specs.Rows.{AreRows}
 use Rattle.net_checks.specs.Claims.{ClearBelow}
-use Rattle.net_rules.specs.Reasons.{IsClear, TriedAlone, InDocument}
+use Rattle.net_rules.specs.Reasons.{NoRefusal, TriedAlone, InDocument}
 use Rattle.net_rules.specs.Routers.{RefusesHostname}
 use Rattle.net_rules.specs.Linking.{FitsSubnets, RefusesLinkFace, RefusesLinkSubnets}
 use Rattle.net_rules.specs.Addressing.{HasEndpoints, RefusesEndpoint}
@@ -57,7 +57,8 @@ apart_both net clear i j f g at_i at_j other = elim (cases_lt i j) [
     strictly i j other h = elim (cases_lt j i) [ inl less ↦ less | inr more ↦ absurd (other (omega (arith, h, more))) ]
 
 module _ (doc : Document) (configs : List Config) (net : Network) (rows : AreRows doc configs net) where
-  pub valid_network : All IsWellFormed configs → IsClear (RefusesHostname configs) → IsClear (RefusesLinkFace doc configs) → IsClear (RefusesInterfaces configs) → ClearBelow net (length net.faces) →
+  pub valid_network : All IsWellFormed configs → NoRefusal (RefusesHostname configs) → NoRefusal (RefusesLinkFace doc configs) → NoRefusal (RefusesInterfaces configs) →
+      ClearBelow net (length net.faces) →
       length configs ≤ 256 → length doc.links ≤ 1024 → IsValid net
   valid_network forms own joined few clear few_configs few_links =
       valid doc configs net (record { well_formed = forms; few = few_files configs few; names = names_distinct configs own forms; clear = joined; rows = rows.base })

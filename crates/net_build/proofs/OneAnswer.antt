@@ -18,7 +18,7 @@ use Rattle.ios_config.proofs.Unique.{config_one}
 use Rattle.ios_config.proofs.OneAnswer.{refusal_one, refused_alone}
 use Rattle.net_rules.specs.Forms.{IsWellFormed}
 use Rattle.arc_base.specs.Lists.{AreDistinct}
-use Rattle.net_build.specs.Networks.{Says, IsFaulty, IsFirstFaulty, IsNetworkWithin, IsFirstRefusalWithin}
+use Rattle.net_build.specs.Networks.{HasSettings, IsFaulty, IsFirstFaulty, IsNetworkWithin, IsFirstRefusalWithin}
 use Rattle.net_build.specs.Order.{tries, RefusesWithin, IsFirstOf}
 use Rattle.net_rules.specs.Rows.{AreRows}
 use Rattle.net_rules.specs.Sites.{full_names}
@@ -32,14 +32,14 @@ use Rattle.net_rules.proofs.SameRows.{one_partner}
 use Rattle.net_build.proofs.WellFormed.{well_formed_config}
 
 -- a text has one list of settings
-one_said : (text : List ℕ) (c d : Config) → Says text c → Says text d → c ≡ d
+one_said : (text : List ℕ) (c d : Config) → HasSettings text c → HasSettings text d → c ≡ d
 one_said text c d a b =
     let lines : a.lines ≡ b.lines = one-list text a.lines b.lines a.are_lines b.are_lines in
     let P : Lines → Type 0 = λ l. IsConfigOf text l c in
     config_one text b.lines c d (subst P lines a.is_config) b.is_config
 
 -- a text that has settings is not faulty
-said_or_faulty : (text : List ℕ) (c : Config) (line : ℕ) (kind : Kind) → Says text c → IsFaulty text line kind → ⊥
+said_or_faulty : (text : List ℕ) (c : Config) (line : ℕ) (kind : Kind) → HasSettings text c → IsFaulty text line kind → ⊥
 said_or_faulty text c line kind says (inl orphan) = says.has_blocks.no_orphan line orphan.1
 said_or_faulty text c line kind says (inr (inl banner)) = says.has_blocks.no_open_banner line banner.1
 said_or_faulty text c line kind says (inr (inr wrong)) =
@@ -92,20 +92,21 @@ one_fault text n m k l (inr (inr a)) (inr (inr b)) =
     record { line = same.0; kind = same.1 }
 
 -- each text before a place has settings
-said_before : (files : List (List ℕ)) (configs : List Config) (i j : ℕ) (text : List ℕ) → i < j → slice_get files i ≡ Some text → AllZip Says (take j files) configs → (c : Config) × Says text c
+said_before : (files : List (List ℕ)) (configs : List Config) (i j : ℕ) (text : List ℕ) → i < j → slice_get files i ≡ Some text → AllZip HasSettings (take j files) configs → (c : Config) ×
+    HasSettings text c
 said_before files configs i zero text below at all = absurd (omega (arith, below))
 said_before [] configs i (suc j) text below at all = absurd (none-some text at)
 said_before (f ∷ files) [] i (suc j) text below at all = absurd all
-said_before (f ∷ files) (c ∷ configs) zero (suc j) text below at all = (c, subst (λ (t : List ℕ). Says t c) (same_Some f text at) all.0)
+said_before (f ∷ files) (c ∷ configs) zero (suc j) text below at all = (c, subst (λ (t : List ℕ). HasSettings t c) (same_Some f text at) all.0)
 said_before (f ∷ files) (c ∷ configs) (suc i) (suc j) text below at all = said_before files configs i j text (omega (arith, below)) at all.1
 
-said_at : (files : List (List ℕ)) (configs : List Config) (i : ℕ) (text : List ℕ) → slice_get files i ≡ Some text → AllZip Says files configs → (c : Config) × Says text c
+said_at : (files : List (List ℕ)) (configs : List Config) (i : ℕ) (text : List ℕ) → slice_get files i ≡ Some text → AllZip HasSettings files configs → (c : Config) × HasSettings text c
 said_at [] configs i text at all = absurd (none-some text at)
 said_at (f ∷ files) [] i text at all = absurd all
-said_at (f ∷ files) (c ∷ configs) zero text at all = (c, subst (λ (t : List ℕ). Says t c) (same_Some f text at) all.0)
+said_at (f ∷ files) (c ∷ configs) zero text at all = (c, subst (λ (t : List ℕ). HasSettings t c) (same_Some f text at) all.0)
 said_at (f ∷ files) (c ∷ configs) (suc i) text at all = said_at files configs i text at all.1
 
-faulty_or_said : (files : List (List ℕ)) (configs : List Config) (r : Refusal) → IsFirstFaulty files r → AllZip Says files configs → ⊥
+faulty_or_said : (files : List (List ℕ)) (configs : List Config) (r : Refusal) → IsFirstFaulty files r → AllZip HasSettings files configs → ⊥
 faulty_or_said files configs r faulty all =
     let says = said_at files configs faulty.place faulty.text faulty.at_place all in
     said_or_faulty faulty.text says.0 r.number r.kind says.1 faulty.faulty
@@ -131,10 +132,10 @@ one_faulty files r s a b = elim (cases_lt a.place b.place) [
   ]
 ]
 
-one_configs : (files : List (List ℕ)) (cs ds : List Config) → AllZip Says files cs → AllZip Says files ds → cs ≡ ds
-one_configs files cs ds a b = one_partner Says one_said files cs ds a b
+one_configs : (files : List (List ℕ)) (cs ds : List Config) → AllZip HasSettings files cs → AllZip HasSettings files ds → cs ≡ ds
+one_configs files cs ds a b = one_partner HasSettings one_said files cs ds a b
 
-pub all_well_formed : (files : List (List ℕ)) (configs : List Config) → AllZip Says files configs → All IsWellFormed configs
+pub all_well_formed : (files : List (List ℕ)) (configs : List Config) → AllZip HasSettings files configs → All IsWellFormed configs
 all_well_formed [] [] said = λ k d l. absurd (omega (arith, l))
 all_well_formed [] (config ∷ configs) said = absurd said
 all_well_formed (text ∷ files) [] said = absurd said

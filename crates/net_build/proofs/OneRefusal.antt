@@ -12,7 +12,7 @@ use Rattle.ios_config.specs.declared.settings.ListText.{ListText}
 use Rattle.net_rules.specs.Limits.{long_list}
 use Rattle.net_build.specs.Order.{Try, Hostname, Protocol, TwoAreas, SameAs, LinkFace, DownLinks, NeighborUnknown, NetworkNotConnected}
 use Rattle.net_build.specs.Order.{Overlap, LinkSubnets, ListStopsSession, AdjacencyForm, Interfaces, Entries, Endpoint, RefusesWithin, IsFirstOf, AreClear}
-use Rattle.net_rules.specs.Reasons.{IsFirst, InFiles, InDocument}
+use Rattle.net_rules.specs.Reasons.{IsEarliest, InFiles, InDocument}
 
 -- the kind of a refusal of an item
 files_kind : {X : Type 0} (kind : Kind) (Offends : ℕ → X → ℕ → Type 0) (items : List X) (r : Refusal) → InFiles kind Offends items r → r.kind ≡ kind
@@ -67,7 +67,7 @@ one_kind down most doc configs Entries = λ r s of_r of_s file.
 one_kind down most doc configs Endpoint = λ r s of_r of_s file. document_kind kinds.Endpoint _ _ r of_r.refuses ∙ sym (document_kind kinds.Endpoint _ _ s of_s.refuses)
 
 -- a try has one first refusal
-one_first : (Makes : Refusal → Type 0) → AreOfOneKind Makes → (r s : Refusal) → IsFirst Makes r → IsFirst Makes s → r ≡ s
+one_first : (Makes : Refusal → Type 0) → AreOfOneKind Makes → (r s : Refusal) → IsEarliest Makes r → IsEarliest Makes s → r ≡ s
 one_first Makes kind r s of_r of_s =
     let file : r.file ≡ s.file = elim (cases_lt r.file s.file) [
       | inl below ↦ absurd (of_s.first r of_r.made (inl below))

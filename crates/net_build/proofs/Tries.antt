@@ -3,35 +3,36 @@ use Rattle.std.proofs.Common.{inl, inr, List, [], ◌∷◌, ◌++◌, Result, O
 use Rattle.net_doc.specs.declared.fault.Refusal.{Refusal}
 use Rattle.net_doc.specs.declared.fault.NetFault.{NetFault}
 use Rattle.net_doc.specs.declared.fault.NetFault.TheVariants.{Refused, Memory}
-use Rattle.net_rules.specs.Reasons.{IsClear, Tried}
-use Rattle.net_build.specs.Order.{Try, IsFirstOf, AreClear, Answers}
+use Rattle.net_rules.specs.Reasons.{NoRefusal, Tried}
+use Rattle.net_build.specs.Order.{Try, IsFirstOf, AreClear, AnswersTries}
 
 module _ (Makes : Try → Refusal → Type 0) where
   -- a refusal of the first try is the first of all
   pub first_fails : {X Y : Type 0} (t : Try) (ts : List Try) (IsRight : X → Type 0) (IsGood : Y → Type 0) (fault : NetFault) →
-      Tried (Makes t) IsRight (Err fault) → Answers Makes (t ∷ ts) IsGood (Err fault)
+      Tried (Makes t) IsRight (Err fault) → AnswersTries Makes (t ∷ ts) IsGood (Err fault)
   first_fails t ts IsRight IsGood (Refused r) first = inl first
   first_fails t ts IsRight IsGood Memory first = tt
 
   -- where the first try is clear, the others decide
-  pub later_fails : {X : Type 0} (t : Try) (ts : List Try) (IsGood : X → Type 0) (fault : NetFault) → IsClear (Makes t) → Answers Makes ts IsGood (Err fault) →
-      Answers Makes (t ∷ ts) IsGood (Err fault)
+  pub later_fails : {X : Type 0} (t : Try) (ts : List Try) (IsGood : X → Type 0) (fault : NetFault) → NoRefusal (Makes t) → AnswersTries Makes ts IsGood (Err fault) →
+      AnswersTries Makes (t ∷ ts) IsGood (Err fault)
   later_fails t ts IsGood (Refused r) clear first = inr (clear, first)
   later_fails t ts IsGood Memory clear first = tt
 
   -- so they do, whatever their answer is
-  pub later_decide : {X : Type 0} (t : Try) (ts : List Try) (IsGood : X → Type 0) (result : Result X NetFault) → IsClear (Makes t) →
-      Answers Makes ts IsGood result → Answers Makes (t ∷ ts) IsGood result
+  pub later_decide : {X : Type 0} (t : Try) (ts : List Try) (IsGood : X → Type 0) (result : Result X NetFault) → NoRefusal (Makes t) →
+      AnswersTries Makes ts IsGood result → AnswersTries Makes (t ∷ ts) IsGood result
   later_decide t ts IsGood (Ok x) clear said = ((clear, said.0), said.1)
   later_decide t ts IsGood (Err fault) clear said = later_fails t ts IsGood fault clear said
 
-  pub one_decides : {X : Type 0} (t : Try) (IsGood : X → Type 0) (result : Result X NetFault) → Tried (Makes t) IsGood result → Answers Makes (t ∷ []) IsGood result
+  pub one_decides : {X : Type 0} (t : Try) (IsGood : X → Type 0) (result : Result X NetFault) → Tried (Makes t) IsGood result → AnswersTries Makes (t ∷ []) IsGood result
   one_decides t IsGood (Ok x) said = ((said.0, tt), said.1)
   one_decides t IsGood (Err (Refused r)) said = inl said
   one_decides t IsGood (Err Memory) said = tt
 
   -- after tries that are clear, the others decide
-  pub clear_before : {X : Type 0} (ts us : List Try) (IsGood : X → Type 0) (result : Result X NetFault) → AreClear Makes ts → Answers Makes us IsGood result → Answers Makes (ts ++ us) IsGood result
+  pub clear_before : {X : Type 0} (ts us : List Try) (IsGood : X → Type 0) (result : Result X NetFault) → AreClear Makes ts → AnswersTries Makes us IsGood result →
+      AnswersTries Makes (ts ++ us) IsGood result
   clear_before [] us IsGood result clear said = said
   clear_before (t ∷ ts) us IsGood result clear said = later_decide t (ts ++ us) IsGood result clear.0 (clear_before ts us IsGood result clear.1 said)
 
@@ -41,6 +42,7 @@ module _ (Makes : Try → Refusal → Type 0) where
   first_of_more (t ∷ ts) us r (inl first) = inl first
   first_of_more (t ∷ ts) us r (inr later) = inr (later.0, first_of_more ts us r later.1)
 
-  pub more_fail : {X Y : Type 0} (ts us : List Try) (IsRight : X → Type 0) (IsGood : Y → Type 0) (fault : NetFault) → Answers Makes ts IsRight (Err fault) → Answers Makes (ts ++ us) IsGood (Err fault)
+  pub more_fail : {X Y : Type 0} (ts us : List Try) (IsRight : X → Type 0) (IsGood : Y → Type 0) (fault : NetFault) → AnswersTries Makes ts IsRight (Err fault) →
+      AnswersTries Makes (ts ++ us) IsGood (Err fault)
   more_fail ts us IsRight IsGood (Refused r) first = first_of_more ts us r first
   more_fail ts us IsRight IsGood Memory first = tt

@@ -22,12 +22,12 @@ use Rattle.ios_config.specs.declared.settings.Config.{Config}
 use Rattle.ios_config.specs.declared.settings.FaceText.{FaceText}
 use Rattle.net_rules.specs.Forms.{IsWellFormed, IsWellFormedFace}
 use Rattle.arc_base.specs.Lists.{AreDistinct}
-use Rattle.net_rules.specs.Settings.{lines_of, address_of, value, cost_of, cost_at, reference_of, bandwidth_of}
+use Rattle.net_rules.specs.Settings.{lines_of, address_of, value, face_cost, cost_at, reference_of, bandwidth_of}
 use Rattle.net_rules.specs.Sites.{Site, FullName, sites, full_name, full_names, host_name, a_end, b_end, two_ends, ends_of}
 use Rattle.net_rules.specs.Lists.{packet_list_key, IsPlaceAmong}
-use Rattle.net_rules.specs.Rows.{IsFaceRow, IsLinkRow, IsSubnet, host_address_of, host_len, is_host_route, IsEnd, AreBaseRows, IsRouterRow}
+use Rattle.net_rules.specs.Rows.{IsFaceRow, IsLinkRow, IsSubnet, host_address_of, host_len, is_host_route, IsEndOfLink, AreBaseRows, IsRouterRow}
 use Rattle.net_rules.specs.Linking.{RefusesLinkFace}
-use Rattle.net_rules.specs.Reasons.{IsClear}
+use Rattle.net_rules.specs.Reasons.{NoRefusal}
 use Rattle.net_rules.proofs.Distinct.{Contains-at, item_at}
 use Rattle.net_build.proofs.FewFaces.{counts, few_sites, sum_zip}
 use Rattle.arc_base.proofs.Items.{Contains-head, Contains-tail, Contains-piece}
@@ -40,7 +40,7 @@ pub record AreKnown (doc : Document) (configs : List Config) (net : Network) : T
   pub well_formed : All IsWellFormed configs
   pub few : All (λ config. length config.faces ≤ 256) configs
   pub names : AreDistinct (full_names configs)
-  pub clear : IsClear (RefusesLinkFace doc configs)
+  pub clear : NoRefusal (RefusesLinkFace doc configs)
   pub rows : AreBaseRows doc configs net
 
 cost_range : (reference bandwidth : ℕ) → (1 ≤ cost_at reference bandwidth) × (cost_at reference bandwidth ≤ 65535)
@@ -82,7 +82,7 @@ module _ (doc : Document) (configs : List Config) (net : Network) (k : AreKnown 
   pub routers_differ : (m : ℕ) (t : LinkText) → slice_get doc.links m ≡ Some t → t.a_router ≢ t.b_router
   routers_differ m t at same = joins_free doc configs k.clear m t at (λ joins. joins.joins.routers same)
 
-  end_named : (i : ℕ) (s : Site) → slice_get (sites configs) i ≡ Some s → IsLinkEnd net i → IsEnd (ends_of doc.links) s
+  end_named : (i : ℕ) (s : Site) → slice_get (sites configs) i ≡ Some s → IsLinkEnd net i → IsEndOfLink (ends_of doc.links) s
   end_named i s at (m, link, within, read, ends) =
       let at_link : slice_get net.links m ≡ Some link = slice_get-get_or net.links m link within ∙ ap Some read in
       let t : (t : LinkText) × (slice_get doc.links m ≡ Some t) × IsLinkRow (full_names configs) t link = text_at m link at_link in
@@ -128,7 +128,7 @@ module _ (doc : Document) (configs : List Config) (net : Network) (k : AreKnown 
   hosted i s f at row None e = tt
   hosted i s f at row (Some p) e =
       let wf : IsWellFormedFace s.face = well_formed_at configs k.well_formed i s at in
-      let no_end : ¬ IsEnd (ends_of doc.links) s = λ is_end. none-some p (sym (row.host.at_end is_end) ∙ e) in
+      let no_end : ¬ IsEndOfLink (ends_of doc.links) s = λ is_end. none-some p (sym (row.host.at_end is_end) ∙ e) in
       let of_p : IsSubnet (host_address_of net.protocol s.face) (Some p) = subst (λ (o : Option Prefix). IsSubnet (host_address_of net.protocol s.face) o) e (row.host.elsewhere no_end) in
       let q = hosted_in (address_of s.face) (host_len net.protocol s.face) (longer_mask net.protocol s.face) (mask_of s.face wf) f.subnet p row.subnet of_p in
       (λ link_end. no_end (end_named i s at link_end), q.0, q.1, q.2)
@@ -138,7 +138,7 @@ module _ (doc : Document) (configs : List Config) (net : Network) (k : AreKnown 
       let within : s.router < length configs = slice_get_within configs s.router s.config (site_of configs i s at).file_at in
       omega (arith, within, AllZip-length (IsRouterRow net.protocol) configs net.routers k.rows.routers)
 
-  cost_within : (lines : List (Given Command)) (face : FaceText) → IsWellFormedFace face → (1 ≤ cost_of lines face) × (cost_of lines face ≤ 65535)
+  cost_within : (lines : List (Given Command)) (face : FaceText) → IsWellFormedFace face → (1 ≤ face_cost lines face) × (face_cost lines face ≤ 65535)
   cost_within lines face wf = by face.cost wf.cost_low wf.cost_high
     where
       by : (o : Option (Given ℕ)) → IfSome o (λ g. 1 ≤ g.value) → IfSome o (λ g. g.value ≤ 65535) →

@@ -18,7 +18,7 @@ use Rattle.net_build.specs.declared.built.Built.{Built}
 use Rattle.net_build.specs.declared.files.ReadFile.{ReadFile}
 use Rattle.net_build.specs.declared.files.ReadFiles.{ReadFiles}
 use Rattle.net_rules.specs.Rows.{AreRows}
-use Rattle.net_build.specs.Order.{tries, RefusesWithin, IsFirstOf, AreClear, Answers}
+use Rattle.net_build.specs.Order.{tries, RefusesWithin, IsFirstOf, AreClear, AnswersTries}
 use Rattle.net_build.specs.Places.{places_of}
 
 -- no indented line of the text is outside a block, and each banner ends
@@ -27,7 +27,7 @@ pub record HasBlocks (text : List ℕ) : Type 0 where
   pub no_open_banner : (line : ℕ) → ¬ HasOpenBannerAt text line
 
 -- the text is a router file with these settings
-pub record Says (text : List ℕ) (config : Config) : Type 0 where
+pub record HasSettings (text : List ℕ) (config : Config) : Type 0 where
   pub has_blocks : HasBlocks text
   pub lines : Lines
   pub are_lines : AreLinesOf text lines
@@ -55,32 +55,33 @@ pub record IsFirstFaulty (files : List (List ℕ)) (r : Refusal) : Type 0 where
   pub text : List ℕ
   pub at_place : slice_get files place ≡ Some text
   pub configs : List Config
-  pub earlier : AllZip Says (take place files) configs
+  pub earlier : AllZip HasSettings (take place files) configs
   pub file : r.file ≡ place + 1
   pub faulty : IsFaulty text r.number r.kind
 
 -- the answer on one file: its lines and settings, or its first refusal
 abbrev pub ReadsFile : ℕ → List ℕ → Result ReadFile NetFault → Type 0
-ReadsFile place text (Ok read) = AreLinesOf text read.lines × Says text read.config
+ReadsFile place text (Ok read) = AreLinesOf text read.lines × HasSettings text read.config
 ReadsFile place text (Err (Refused r)) = (r.file ≡ place + 1) × IsFaulty text r.number r.kind
 ReadsFile place text (Err Memory) = Unit {0}
 
 -- the answer on all files: the lines and settings of each, or the first refusal
 abbrev pub ReadsFiles : List (List ℕ) → Result ReadFiles NetFault → Type 0
-ReadsFiles files (Ok read) = AllZip AreLinesOf files read.lines × AllZip Says files read.configs
+ReadsFiles files (Ok read) = AllZip AreLinesOf files read.lines ×
+    AllZip HasSettings files read.configs
 ReadsFiles files (Err (Refused r)) = IsFirstFaulty files r
 ReadsFiles files (Err Memory) = Unit {0}
 
 -- the answer on the settings of all files, or the first refusal
 abbrev pub ReadsConfigs : List (List ℕ) → Result (List Config) NetFault → Type 0
-ReadsConfigs files (Ok configs) = AllZip Says files configs
+ReadsConfigs files (Ok configs) = AllZip HasSettings files configs
 ReadsConfigs files (Err (Refused r)) = IsFirstFaulty files r
 ReadsConfigs files (Err Memory) = Unit {0}
 
 -- the answer on the settings of all files: their network, or the first refusal of the tries
 abbrev pub Assembles : List ℕ → ℕ → Document → List Config → Result Network NetFault → Type 0
 Assembles down most_entries doc configs result =
-    Answers (RefusesWithin down most_entries doc configs) tries (AreRows doc configs) result
+    AnswersTries (RefusesWithin down most_entries doc configs) tries (AreRows doc configs) result
 
 -- The network of the document and the texts of its router files: these have settings, the network
 -- has their rows, and no try refuses them, where the links of these numbers are to be down and no
@@ -88,7 +89,7 @@ Assembles down most_entries doc configs result =
 pub record IsNetworkWithin (down : List ℕ) (most_entries : ℕ) (doc : Document)
     (files : List (List ℕ)) (net : Network) : Type 0 where
   pub configs : List Config
-  pub said : AllZip Says files configs
+  pub said : AllZip HasSettings files configs
   pub rows : AreRows doc configs net
   pub clear : AreClear (RefusesWithin down most_entries doc configs) tries
 
@@ -103,7 +104,7 @@ pub record IsBuiltWithin (down : List ℕ) (most_entries : ℕ) (doc : Document)
 pub record IsTriedWithin (down : List ℕ) (most_entries : ℕ) (doc : Document) (files : List (List ℕ))
     (r : Refusal) : Type 0 where
   pub configs : List Config
-  pub said : AllZip Says files configs
+  pub said : AllZip HasSettings files configs
   pub first : IsFirstOf (RefusesWithin down most_entries doc configs) tries r
 
 -- the first refusal: the first text that is no router file, or else the first refusal of the tries

@@ -6,7 +6,7 @@ use Rattle.net_doc.specs.declared.fault.NetFault.{NetFault}
 use Rattle.net_doc.specs.declared.fault.NetFault.TheVariants.{Refused, Memory}
 use Rattle.net_model.specs.declared.policies.Document.{Document}
 use Rattle.ios_config.specs.declared.settings.Config.{Config}
-use Rattle.net_rules.specs.Reasons.{IsClear, IsFirst}
+use Rattle.net_rules.specs.Reasons.{NoRefusal, IsEarliest}
 use Rattle.net_rules.specs.Routers.{RefusesHostname, RefusesProtocol, RefusesTwoAreas}
 use Rattle.net_rules.specs.Routers.{RefusesSameAs}
 use Rattle.net_rules.specs.Linking.{RefusesLinkFace, RefusesDownLinks, RefusesLinkSubnets}
@@ -78,17 +78,17 @@ Refuses doc configs = RefusesWithin [] ENTRY_LIMIT doc configs
 -- the first refusal of some tries: the first one of the first try that makes any
 abbrev pub IsFirstOf : (Try → Refusal → Type 0) → List Try → Refusal → Type 0
 IsFirstOf Makes [] r = ⊥
-IsFirstOf Makes (t ∷ ts) r = IsFirst (Makes t) r ⊎ (IsClear (Makes t) × IsFirstOf Makes ts r)
+IsFirstOf Makes (t ∷ ts) r = IsEarliest (Makes t) r ⊎ (NoRefusal (Makes t) × IsFirstOf Makes ts r)
 
 -- none of some tries refuses anything
 abbrev pub AreClear : (Try → Refusal → Type 0) → List Try → Type 0
 AreClear Makes [] = Unit {0}
-AreClear Makes (t ∷ ts) = IsClear (Makes t) × AreClear Makes ts
+AreClear Makes (t ∷ ts) = NoRefusal (Makes t) × AreClear Makes ts
 
 -- the answer of some tries: none refuses anything and the value is right, or it is the first
 -- refusal, or out of memory
-abbrev pub Answers : {X : Type 0} → (Try → Refusal → Type 0) → List Try → (X → Type 0) →
+abbrev pub AnswersTries : {X : Type 0} → (Try → Refusal → Type 0) → List Try → (X → Type 0) →
     Result X NetFault → Type 0
-Answers Makes ts IsRight (Ok value) = AreClear Makes ts × IsRight value
-Answers Makes ts IsRight (Err (Refused r)) = IsFirstOf Makes ts r
-Answers Makes ts IsRight (Err Memory) = Unit {0}
+AnswersTries Makes ts IsRight (Ok value) = AreClear Makes ts × IsRight value
+AnswersTries Makes ts IsRight (Err (Refused r)) = IsFirstOf Makes ts r
+AnswersTries Makes ts IsRight (Err Memory) = Unit {0}

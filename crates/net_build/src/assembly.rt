@@ -1,7 +1,7 @@
 //! The network of the settings of all files, or the first refusal of the checks in their order.
 ghost use Rattle.arc_base.specs.Lists.{AreDistinct};
 ghost use Rattle.net_build.specs.Networks.{Assembles};
-ghost use Rattle.net_build.specs.Order.{RefusesWithin, Answers, router_tries, link_tries};
+ghost use Rattle.net_build.specs.Order.{RefusesWithin, AnswersTries, router_tries, link_tries};
 ghost use Rattle.net_build.specs.Order.{network_tries};
 ghost use Rattle.net_model.specs.Validity.{IsValid};
 ghost use Rattle.net_model.specs.declared.policies.Document.{Document};
@@ -11,7 +11,7 @@ ghost use Rattle.net_rules.specs.Linking.{RefusesLinkFace};
 ghost use Rattle.net_rules.specs.Lists.{ArePacketLists, AreRouteLists, packet_list_key};
 ghost use Rattle.net_rules.specs.Lists.{route_list_key};
 ghost use Rattle.net_rules.specs.Names.{names_at};
-ghost use Rattle.net_rules.specs.Reasons.{IsClear};
+ghost use Rattle.net_rules.specs.Reasons.{NoRefusal};
 ghost use Rattle.net_rules.specs.Routers.{RefusesHostname};
 ghost use Rattle.net_rules.specs.Rows.{IsFaceRow, IsLinkRow, AreBaseRows, AreRows, AreSessions};
 ghost use Rattle.net_rules.specs.Sites.{sites, full_names, ends_of};
@@ -40,7 +40,8 @@ use std::alloc::Global;
 fn try_routers(alloc: Global, configs: &List<Config>) -> Result<(), NetFault>
     requires { length configs.now ≤ ROUTER_LIMIT }
     ensures { (down : List ℕ) (most : ℕ) (doc : Document) →
-        Answers (RefusesWithin down most doc configs.now) router_tries (λ done. Unit {0}) result }
+        AnswersTries (RefusesWithin down most doc configs.now) router_tries (λ done. Unit {0})
+        result }
 {
     try_hostnames(alloc, configs)?;
     try_processes(configs)?;
@@ -79,7 +80,7 @@ fn sessions_of(
     requires few { length configs.now ≤ ROUTER_LIMIT }
     requires lists { AreRouteLists configs.now net.now.route_lists }
     ensures { IfOk result (λ sessions. (doc : Document) →
-        IsClear (RefusesLinkFace doc configs.now) → AreBaseRows doc configs.now net.now →
+        NoRefusal (RefusesLinkFace doc configs.now) → AreBaseRows doc configs.now net.now →
         AreSessions net.now.protocol configs.now net.now.links
         (map route_list_key net.now.route_lists) sessions) }
 {
@@ -129,7 +130,7 @@ fn joined(
     requires well_formed { All IsWellFormed configs.now }
     requires named { AreDistinct (full_names configs.now) }
     ensures { (most : ℕ) →
-        Answers (RefusesWithin down.now most doc.now configs.now) link_tries
+        AnswersTries (RefusesWithin down.now most doc.now configs.now) link_tries
         (AreRows doc.now configs.now) result }
 {
     let names = index_names(alloc, configs)?;
@@ -156,11 +157,11 @@ fn try_network(
     requires links { length doc.now.links ≤ LINK_LIMIT }
     requires policies { length doc.now.policies ≤ POLICY_LIMIT }
     requires well_formed { All IsWellFormed configs.now }
-    requires named { IsClear (RefusesHostname configs.now) }
-    requires joined { IsClear (RefusesLinkFace doc.now configs.now) }
+    requires named { NoRefusal (RefusesHostname configs.now) }
+    requires joined { NoRefusal (RefusesLinkFace doc.now configs.now) }
     requires rows { AreRows doc.now configs.now net.now }
     ensures answer { (down : List ℕ) →
-        Answers (RefusesWithin down most_entries doc.now configs.now) network_tries
+        AnswersTries (RefusesWithin down most_entries doc.now configs.now) network_tries
         (λ done. Unit {0}) result }
     ensures valid { OnOk result (IsValid net.now) }
     ensures ends { OnOk result

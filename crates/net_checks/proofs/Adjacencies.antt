@@ -16,7 +16,7 @@ use Rattle.arc_base.specs.Lists.{AreDistinct}
 use Rattle.net_rules.specs.Settings.{is_point_to_point}
 use Rattle.net_rules.specs.Sites.{Site, sites, full_names}
 use Rattle.net_rules.specs.Rows.{AreRows}
-use Rattle.net_rules.specs.Reasons.{IsBefore, IsClear, IsFirst, TriedAlone, InFiles, InDocument}
+use Rattle.net_rules.specs.Reasons.{IsBefore, NoRefusal, IsEarliest, TriedAlone, InFiles, InDocument}
 use Rattle.net_rules.specs.Routers.{Repeats}
 use Rattle.net_rules.specs.Linking.{TypesDiffer, RefusesTypes, router_id_of, RefusesAdjacencyForm}
 use Rattle.net_rules.proofs.SameNetwork.{same_rows, tried_same}
@@ -67,7 +67,7 @@ module _ (doc : Document) (configs : List Config) (distinct : AreDistinct (full_
   from_types r bad = subst (λ (n : Network). InDocument kinds.AdjacencyForm (DiffersAt configs) n.links r) (same_rows doc configs distinct bad.net net bad.rows rows) bad.refuses
 
   -- the first of the links comes before all files
-  types_first : (r : Refusal) → IsFirst (InDocument kinds.AdjacencyForm (DiffersAt configs) net.links) r → IsFirst (RefusesAdjacencyForm doc configs) r
+  types_first : (r : Refusal) → IsEarliest (InDocument kinds.AdjacencyForm (DiffersAt configs) net.links) r → IsEarliest (RefusesAdjacencyForm doc configs) r
   types_first r is = record { made = inl (to_types r is.made); first = first }
     where
       in_document : r.file ≡ 0
@@ -85,7 +85,7 @@ module _ (doc : Document) (configs : List Config) (distinct : AreDistinct (full_
   types_fail Memory said = tt
 
   -- where the links are clear, the files decide
-  pub ids_decide : IsClear (InDocument kinds.AdjacencyForm (DiffersAt configs) net.links) → (result : Result (Unit {0}) NetFault) →
+  pub ids_decide : NoRefusal (InDocument kinds.AdjacencyForm (DiffersAt configs) net.links) → (result : Result (Unit {0}) NetFault) →
       TriedAlone (InFiles kinds.AdjacencyForm (Repeats router_id_of configs) configs) result → TriedAlone (RefusesAdjacencyForm doc configs) result
   ids_decide clear result said = tried_same (InFiles kinds.AdjacencyForm (Repeats router_id_of configs) configs) (RefusesAdjacencyForm doc configs) (λ (done : Unit {0}). Unit {0}) result to from said
     where

@@ -11,7 +11,7 @@ use Rattle.net_doc.specs.declared.fault.Refusal.{Refusal}
 use Rattle.ios_config.specs.declared.settings.Given.{Given}
 use Rattle.ios_config.specs.declared.settings.Config.{Config}
 use Rattle.ios_config.specs.Least.{FindsLeast, lesser}
-use Rattle.net_rules.specs.Reasons.{IsBefore, IsClear, IsFirst, InFiles}
+use Rattle.net_rules.specs.Reasons.{IsBefore, NoRefusal, IsEarliest, InFiles}
 use Rattle.net_rules.specs.Routers.{areas_of, IsFirstArea, IsOther, RefusesTwoAreas}
 use Rattle.net_checks.specs.Growing.{sooner, IsSoonest, line_of_other}
 use Rattle.net_rules.proofs.Leasts.{LinesTo, least_more}
@@ -123,10 +123,10 @@ module _ (configs : List Config) (area : ℕ) (is_first : IsFirstArea configs ar
       earlier given first file number line (inl h) = inl (omega (arith, file, h))
       earlier given first file number line (inr (e, h)) = inr (omega (arith, file, e), omega (arith, number, line, h))
 
-  pub others_clear : IsClear Others → IsClear (RefusesTwoAreas configs)
+  pub others_clear : NoRefusal Others → NoRefusal (RefusesTwoAreas configs)
   others_clear clear s bad = let f : Found s = found s bad in clear f.refusal f.other
 
-  pub others_first : (r : Refusal) → IsFirst Others r → IsFirst (RefusesTwoAreas configs) r
+  pub others_first : (r : Refusal) → IsEarliest Others r → IsEarliest (RefusesTwoAreas configs) r
   others_first r first = record {
     made = record {
       place = first.made.place;
@@ -156,7 +156,7 @@ module _ (configs : List Config) (area : ℕ) (is_first : IsFirstArea configs ar
       ]
 
 -- where no area is the first, none is refused
-pub none_refused : (configs : List Config) → ((area : ℕ) → ¬ IsFirstArea configs area) → IsClear (RefusesTwoAreas configs)
+pub none_refused : (configs : List Config) → ((area : ℕ) → ¬ IsFirstArea configs area) → NoRefusal (RefusesTwoAreas configs)
 none_refused configs none s bad = none bad.offends.first bad.offends.is_first
 
 -- one more area

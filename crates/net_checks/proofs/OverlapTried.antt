@@ -18,7 +18,7 @@ use Rattle.ios_config.specs.declared.settings.FaceText.{FaceText}
 use Rattle.arc_base.specs.Lists.{AreDistinct}
 use Rattle.net_rules.specs.Settings.{address_of, value}
 use Rattle.net_rules.specs.Sites.{Site, sites, full_names}
-use Rattle.net_rules.specs.Reasons.{IsBefore, IsClear, IsFirst}
+use Rattle.net_rules.specs.Reasons.{IsBefore, NoRefusal, IsEarliest}
 use Rattle.net_rules.specs.Rows.{IsFaceRow, IsSubnet, AreRows}
 use Rattle.net_rules.specs.Addressing.{OverlapsEarlier, RefusesOverlap}
 use Rattle.net_rules.proofs.SameNetwork.{same_rows}
@@ -51,11 +51,11 @@ one_line None m n h k = absurd h
 one_line (Some g) m n h k = sym h ∙ k
 
 module _ (doc : Document) (configs : List Config) (distinct : AreDistinct (full_names configs)) (net : Network) (rows : AreRows doc configs net) where
-  pub none_overlaps : ((place : ℕ) → ¬ OverlapsEarlier net place) → IsClear (RefusesOverlap doc configs)
+  pub none_overlaps : ((place : ℕ) → ¬ OverlapsEarlier net place) → NoRefusal (RefusesOverlap doc configs)
   none_overlaps none r bad = none bad.place (subst (λ (n : Network). OverlapsEarlier n bad.place) (same_rows doc configs distinct bad.net net bad.rows rows) bad.overlaps)
 
   pub overlap_first : (place : ℕ) → OverlapsEarlier net place → ((k : ℕ) → k < place → ¬ OverlapsEarlier net k) → (site : Site) → slice_get (sites configs) place ≡ Some site →
-      (line : ℕ) → line ≡ option_map_or (λ (g : Given ℕ). g.line) site.face.addr 0 → IsFirst (RefusesOverlap doc configs) (record { file = site.router + 1; number = line; kind = kinds.Overlap })
+      (line : ℕ) → line ≡ option_map_or (λ (g : Given ℕ). g.line) site.face.addr 0 → IsEarliest (RefusesOverlap doc configs) (record { file = site.router + 1; number = line; kind = kinds.Overlap })
   overlap_first place overlaps none_before site at_place line is = record {
     made = record { net = net; rows = rows; place = place; overlaps = overlaps; none_before = none_before; site = site; at_place = at_place; line = line; gives = gives; told = refl };
     first = λ other bad. not_before other bad;

@@ -21,7 +21,7 @@ use Rattle.net_rules.specs.Sites.{Site, FullName, sites_of, sites, host_name, fu
 use Rattle.arc_base.specs.Lists.{AreDistinct}
 use Rattle.net_rules.specs.Lists.{packet_list_key}
 use Rattle.net_rules.specs.Rows.{IsFaceRow, IsLinkRow, AreBaseRows}
-use Rattle.net_rules.specs.Reasons.{IsClear, IsFirst, InFiles, TriedAlone}
+use Rattle.net_rules.specs.Reasons.{NoRefusal, IsEarliest, InFiles, TriedAlone}
 use Rattle.net_rules.specs.Peers.{IsFarEnd, IsKnown, NamesOther, RefusesNeighbor}
 use Rattle.net_checks.specs.FarEnds.{LeadsTo, LinkLeadsTo, IsReached}
 use Rattle.net_checks.proofs.PeersEnds.{others_same}
@@ -40,10 +40,10 @@ module _ {X : Type 0} (kind : Kind) (P Q : ℕ → X → ℕ → Type 0) (items 
   back : (r : Refusal) → InFiles kind Q items r → InFiles kind P items r
   back r bad = record { place = bad.place; item = bad.item; at_place = bad.at_place; number = bad.number; offends = from bad.place bad.item bad.number bad.at_place bad.offends; told = bad.told }
 
-  pub clear_same : IsClear (InFiles kind P items) → IsClear (InFiles kind Q items)
+  pub clear_same : NoRefusal (InFiles kind P items) → NoRefusal (InFiles kind Q items)
   clear_same clear r bad = clear r (back r bad)
 
-  pub first_same : (r : Refusal) → IsFirst (InFiles kind P items) r → IsFirst (InFiles kind Q items) r
+  pub first_same : (r : Refusal) → IsEarliest (InFiles kind P items) r → IsEarliest (InFiles kind Q items) r
   first_same r first = record { made = there r first.made; first = λ other bad. first.first other (back other bad) }
 
 -- an address that is read at a place is that of a row there
@@ -151,13 +151,13 @@ module _ (doc : Document) (configs : List Config) (net : Network) (base : AreBas
     from place config n at h =
         others_same (IsKnown doc configs config) (IsReached ends place config) (λ peer. let s = known_same ends are place config at peer in (s.1, s.0)) (lines_of config) n h
 
-    pub first_unknown : (items : List Config) (r : Refusal) → items ≡ configs → IsFirst (InFiles kinds.NeighborUnknown (Reached ends) items) r → IsFirst (RefusesNeighbor doc configs) r
+    pub first_unknown : (items : List Config) (r : Refusal) → items ≡ configs → IsEarliest (InFiles kinds.NeighborUnknown (Reached ends) items) r → IsEarliest (RefusesNeighbor doc configs) r
     first_unknown items r same first =
-        first_same kinds.NeighborUnknown (Reached ends) Unknown configs to from r (subst (λ (cs : List Config). IsFirst (InFiles kinds.NeighborUnknown (Reached ends) cs) r) same first)
+        first_same kinds.NeighborUnknown (Reached ends) Unknown configs to from r (subst (λ (cs : List Config). IsEarliest (InFiles kinds.NeighborUnknown (Reached ends) cs) r) same first)
 
-    pub none_unknown : (items : List Config) → items ≡ configs → IsClear (InFiles kinds.NeighborUnknown (Reached ends) items) → IsClear (RefusesNeighbor doc configs)
+    pub none_unknown : (items : List Config) → items ≡ configs → NoRefusal (InFiles kinds.NeighborUnknown (Reached ends) items) → NoRefusal (RefusesNeighbor doc configs)
     none_unknown items same clear =
-        clear_same kinds.NeighborUnknown (Reached ends) Unknown configs to from (subst (λ (cs : List Config). IsClear (InFiles kinds.NeighborUnknown (Reached ends) cs)) same clear)
+        clear_same kinds.NeighborUnknown (Reached ends) Unknown configs to from (subst (λ (cs : List Config). NoRefusal (InFiles kinds.NeighborUnknown (Reached ends) cs)) same clear)
 
     pub tried_known : (result : Result (Unit {0}) NetFault) → TriedAlone (InFiles kinds.NeighborUnknown (Reached ends) configs) result → TriedAlone (RefusesNeighbor doc configs) result
     tried_known (Ok done) tried = (clear_same kinds.NeighborUnknown (Reached ends) Unknown configs to from tried.0, tt)

@@ -17,7 +17,7 @@ use Rattle.net_rules.specs.Sites.{Site, sites, full_names, ends_of}
 use Rattle.arc_base.specs.Lists.{AreDistinct}
 use Rattle.net_rules.specs.Lists.{IsPlaceAmong, packet_list_key}
 use Rattle.net_rules.specs.Rows.{IsFaceRow, AreRows}
-use Rattle.net_rules.specs.Reasons.{IsClear, IsFirst}
+use Rattle.net_rules.specs.Reasons.{NoRefusal, IsEarliest}
 use Rattle.net_rules.specs.Stops.{RefusesListStopsSession}
 use Rattle.net_checks.specs.FarEnds.{FindsOnly}
 use Rattle.net_checks.specs.Stopping.{list_line, StopsBetween, IsRefusalAt, StopsAt, StopsAtSome}
@@ -90,8 +90,8 @@ module _ (doc : Document) (configs : List Config) (net : Network) (distinct : Ar
       ) in
       subst (λ (m : Network). StopsAtSome m configs m.links r) (same_rows doc configs distinct bad.net net bad.rows rows) there
 
-  pub clear_stops : ((r : Refusal) → ¬ StopsAtSome net configs net.links r) → IsClear (RefusesListStopsSession doc configs)
+  pub clear_stops : ((r : Refusal) → ¬ StopsAtSome net configs net.links r) → NoRefusal (RefusesListStopsSession doc configs)
   clear_stops clear r bad = clear r (here r bad)
 
-  pub first_stops : (r : Refusal) → IsFirst (StopsAtSome net configs net.links) r → IsFirst (RefusesListStopsSession doc configs) r
+  pub first_stops : (r : Refusal) → IsEarliest (StopsAtSome net configs net.links) r → IsEarliest (RefusesListStopsSession doc configs) r
   first_stops r first = record { made = made r first.made; first = λ other bad. first.first other (here other bad) }

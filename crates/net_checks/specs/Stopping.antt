@@ -10,7 +10,7 @@ use Rattle.net_model.specs.Routing.{IsAbleEnd, session_at, tail_end, head_end}
 use Rattle.ios_config.specs.declared.settings.Config.{Config}
 use Rattle.ios_config.specs.declared.settings.FaceText.{FaceText}
 use Rattle.net_rules.specs.Sites.{Site, sites}
-use Rattle.net_rules.specs.Reasons.{IsFirst}
+use Rattle.net_rules.specs.Reasons.{IsEarliest}
 use Rattle.net_rules.specs.Stops.{StopsPackets}
 
 -- the line that binds the inbound list of the interface, and 0 where none does
@@ -49,7 +49,7 @@ StopsAtSome net configs links r =
 
 -- what was found is the first refusal that the reason makes, or it makes none
 abbrev pub FindsFirst : (Refusal → Type 0) → Option Refusal → Type 0
-FindsFirst Reason found = MatchOption found ((r : Refusal) → ¬ Reason r) (IsFirst Reason)
+FindsFirst Reason found = MatchOption found ((r : Refusal) → ¬ Reason r) (IsEarliest Reason)
 
 -- the refusal comes before the other
 abbrev pub is_before : Refusal → Refusal → Bool

@@ -23,7 +23,7 @@ use Rattle.net_model.specs.declared.policies.Document.{Document}
 use Rattle.net_doc.specs.declared.fault.NetFault.{NetFault}
 use Rattle.net_doc.specs.declared.fault.Refusal.{Refusal}
 use Rattle.net_doc.specs.Members.{all_of, list_under, or_default}
-use Rattle.net_doc.specs.Documents.{router_of, routers_of, links_of, policies_of, weight_from, weight_under, weights_from, weights_of, unit_weights, version_of, document_from}
+use Rattle.net_doc.specs.Documents.{router_of, data_routers, data_links, policies_of, weight_from, weight_under, weights_from, weights_of, unit_weights, version_of, document_from}
 use Rattle.net_doc.specs.Documents.{document_of, form_refusal, over, failures_refusal, policies_refusal, limit_refusal, within_limits, limited, reading, IsFileName, IsWeight, IsWellFormed}
 use Rattle.net_model.specs.Policies.{HasFewFailures}
 use Rattle.net_doc.proofs.Names.{AllPairs-different}
@@ -54,7 +54,7 @@ record AreRouters (routers : List (List ℕ)) : Type 0 where
   names : All IsFileName routers
   differ : AllPairs (λ r s. r ≢ s) routers
 
-routers_of-some : (d : Data) (routers : List (List ℕ)) → routers_of d ≡ Some routers → AreRouters routers
+routers_of-some : (d : Data) (routers : List (List ℕ)) → data_routers d ≡ Some routers → AreRouters routers
 routers_of-some d routers e =
     and_then_some _ (list_under (codes "routers") d) routers e λ items _ e₁.
     and_then_some _ (all_of router_of items) routers e₁ λ names names_is e₂.
@@ -116,8 +116,8 @@ record HasForms (doc : Document) : Type 0 where
 from-forms : (d : Data) (doc : Document) → document_from d ≡ Some doc → HasForms doc
 from-forms d doc e =
     and_then_some _ (version_of d) doc e λ version _ e₁.
-    and_then_some _ (routers_of d) doc e₁ λ routers routers_is e₂.
-    and_then_some _ (links_of d) doc e₂ λ links _ e₃.
+    and_then_some _ (data_routers d) doc e₁ λ routers routers_is e₂.
+    and_then_some _ (data_links d) doc e₂ λ links _ e₃.
     and_then_some _ (policies_of version d) doc e₃ λ policies _ e₄.
     and_then_some _ (weights_of d) doc e₄ λ weights weights_is e₅.
     let (_, value) = cond_some _ _ _ e₅ in

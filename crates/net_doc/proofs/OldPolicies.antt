@@ -17,8 +17,8 @@ use Rattle.net_model.specs.declared.policies.PolicyKind.{PolicyKind}
 use Rattle.net_model.specs.declared.policies.PolicyKind.TheVariants.{Blocked, Through, Reach}
 use Rattle.net_model.specs.declared.policies.Policy.{Policy}
 use Rattle.net_doc.specs.Members.{are_among, has_only, number_under, text_under}
-use Rattle.net_doc.specs.Services.{services_of, services_from}
-use Rattle.net_doc.specs.Documents.{kind_of, kind_members, OldPoliciesAreWhole}
+use Rattle.net_doc.specs.Services.{policy_services, services_from}
+use Rattle.net_doc.specs.Documents.{policy_kind, kind_members, OldPoliciesAreWhole}
 
 -- a name that is among none of the members' is no member's
 module _ (names : List (List ℕ)) (k : List ℕ) (not_among : list_any (λ known. bytes_eq known k) names ≡ false) where
@@ -51,7 +51,7 @@ no_port Blocked = refl
 no_port Through = refl
 no_port (Reach failures) = refl
 
-whole_of : (d : Data) (kind : PolicyKind) → has_only (kind_members kind) d ≡ true → services_of d ≡ Some whole_service
+whole_of : (d : Data) (kind : PolicyKind) → has_only (kind_members kind) d ≡ true → policy_services d ≡ Some whole_service
 whole_of d kind h =
     ap (λ (o : Option Data). services_from o (get (codes "port") d)) (lacks (kind_members kind) (codes "proto") (no_proto kind) d h)
     ∙ ap (services_from None) (lacks (kind_members kind) (codes "port") (no_port kind) d h)
@@ -59,11 +59,11 @@ whole_of d kind h =
 pub old_policies : OldPoliciesAreWhole
 old_policies d policy e =
     and_then_some _ (text_under (codes "kind") d) policy e λ kind_text _ e₁.
-    and_then_some _ (kind_of kind_text (number_under (codes "failures") d)) policy e₁ λ kind _ e₂.
+    and_then_some _ (policy_kind kind_text (number_under (codes "failures") d)) policy e₁ λ kind _ e₂.
     and_then_some _ (text_under (codes "from") d) policy e₂ λ from_text _ e₃.
     and_then_some _ (prefix_of from_text) policy e₃ λ from _ e₄.
     and_then_some _ (text_under (codes "to") d) policy e₄ λ to_text _ e₅.
     and_then_some _ (prefix_of to_text) policy e₅ λ to _ e₆.
-    and_then_some _ (services_of d) policy e₆ λ service is e₇.
+    and_then_some _ (policy_services d) policy e₆ λ service is e₇.
     let (only, value) = cond_some _ _ _ e₇ in
     ap (λ (p : Policy). p.service) (sym value) ∙ same_Some _ _ (sym is ∙ whole_of d kind only)

@@ -3,12 +3,13 @@ use Rattle.std.proofs.Common.{◌≡◌, ℕ, ◌+◌, ◌*◌, ◌/◌, inl, in
 use Rattle.std.specs.Prelude.{IfSome, option_and_then}
 use Rattle.serde_json.specs.Data.{Data}
 use Rattle.serde_json.specs.Find.{get}
-use Rattle.net_doc.specs.Services.{AreOfOneProtocol, PoliciesSpeakOfOneProtocol, are_ends, has_ports, of_port, of_protocol, port_of, protocol_of, range_from, range_if, services_from}
+use Rattle.net_doc.specs.Services.{AreOfOneProtocol, PoliciesSpeakOfOneProtocol, are_ends, allows_ports, of_port, of_protocol, data_port, data_protocol, service_range_from, service_range_if}
+use Rattle.net_doc.specs.Services.{services_from}
 
-of-range : (low high : ℕ) → low / 65536 ≡ high / 65536 → IfSome (range_from low high) AreOfOneProtocol
+of-range : (low high : ℕ) → low / 65536 ≡ high / 65536 → IfSome (service_range_from low high) AreOfOneProtocol
 of-range low high same = by (are_ends low high) refl
   where
-    by : (b : Bool) (e : are_ends low high ≡ b) → IfSome (range_if low high b e) AreOfOneProtocol
+    by : (b : Bool) (e : are_ends low high ≡ b) → IfSome (service_range_if low high b e) AreOfOneProtocol
     by true e = inr same
     by false e = tt
 
@@ -17,9 +18,9 @@ with-protocol None = tt
 with-protocol (Some n) = of-range (n * 65536) (n * 65536 + 65535) (omega arith)
 
 with-port : (n p : ℕ) → IfSome (of_port n p) AreOfOneProtocol
-with-port n p = by (has_ports n)
+with-port n p = by (allows_ports n)
   where
-    by : (b : Bool) → IfSome (if b then range_from (n * 65536 + p) (n * 65536 + p) else None) AreOfOneProtocol
+    by : (b : Bool) → IfSome (if b then service_range_from (n * 65536 + p) (n * 65536 + p) else None) AreOfOneProtocol
     by true = of-range (n * 65536 + p) (n * 65536 + p) refl
     by false = tt
 
@@ -31,8 +32,8 @@ with-both (Some n) (Some p) = with-port n p
 from : (proto port : Option Data) → IfSome (services_from proto port) AreOfOneProtocol
 from None None = inl (refl, refl)
 from None (Some port) = tt
-from (Some proto) None = with-protocol (protocol_of proto)
-from (Some proto) (Some port) = with-both (protocol_of proto) (port_of port)
+from (Some proto) None = with-protocol (data_protocol proto)
+from (Some proto) (Some port) = with-both (data_protocol proto) (data_port port)
 
 pub one_protocol : PoliciesSpeakOfOneProtocol
 one_protocol d = from (get (codes "proto") d) (get (codes "port") d)

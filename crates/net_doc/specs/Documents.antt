@@ -31,7 +31,7 @@ use Rattle.net_model.specs.Policies.{HasFewFailures}
 use Rattle.net_doc.specs.declared.fault.Refusal.{Refusal}
 use Rattle.net_doc.specs.declared.fault.NetFault.{NetFault}
 use Rattle.net_doc.specs.declared.fault.NetFault.TheVariants.{Refused, Memory}
-use Rattle.net_doc.specs.Services.{services_of}
+use Rattle.net_doc.specs.Services.{policy_services}
 use Rattle.net_doc.specs.Members.{has_only, number_under, text_under, list_under, all_of}
 use Rattle.net_doc.specs.Members.{or_default}
 
@@ -73,38 +73,38 @@ are_different [] = true
 are_different (name ∷ names) = not (list_any (bytes_eq name) names) && are_different names
 
 -- the routers' files: at least one, and none twice
-abbrev pub routers_of : Data → Option (List (List ℕ))
-routers_of d = do
+abbrev pub data_routers : Data → Option (List (List ℕ))
+data_routers d = do
   items ← list_under (codes "routers") d
   names ← all_of router_of items
   where_true (nat_le 1 (length names) && are_different names) names
 
 -- a link's end: the text before the first colon names the router, and that after it the interface
-abbrev pub end_of : List ℕ → Option (List ℕ × List ℕ)
-end_of text = cut_at 58 text
+abbrev pub data_end : List ℕ → Option (List ℕ × List ℕ)
+data_end text = cut_at 58 text
 
 -- whether a link is a waypoint, which it is not where nothing is said
 abbrev pub waypoint_of : Data → Option Bool
 waypoint_of d = or_default false as_bool (get (codes "waypoint") d)
 
 -- a link: its two ends, and whether it is a waypoint
-abbrev pub link_of : Data → Option LinkText
-link_of d = do
+abbrev pub data_link : Data → Option LinkText
+data_link d = do
   a_text ← text_under (codes "a") d
-  a ← end_of a_text
+  a ← data_end a_text
   b_text ← text_under (codes "b") d
-  b ← end_of b_text
+  b ← data_end b_text
   waypoint ← waypoint_of d
   where_true (has_only link_members d)
       (record { a_router = a.0; a_face = a.1; b_router = b.0; b_face = b.1; waypoint = waypoint })
 
 -- the links
-abbrev pub links_of : Data → Option (List LinkText)
-links_of d = option_and_then (all_of link_of) (list_under (codes "links") d)
+abbrev pub data_links : Data → Option (List LinkText)
+data_links d = option_and_then (all_of data_link) (list_under (codes "links") d)
 
 -- what a policy asks, by the text of its kind and the number of failures, if it has one
-abbrev pub kind_of : List ℕ → Option ℕ → Option PolicyKind
-kind_of text failures =
+abbrev pub policy_kind : List ℕ → Option ℕ → Option PolicyKind
+policy_kind text failures =
     if bytes_eq text (codes "blocked") then Some Blocked
     else if bytes_eq text (codes "through") then Some Through
     else if bytes_eq text (codes "reach") then option_map Reach failures
@@ -115,12 +115,12 @@ kind_of text failures =
 abbrev pub policy_of : ℕ → Data → Option Policy
 policy_of version d = do
   kind_text ← text_under (codes "kind") d
-  kind ← kind_of kind_text (number_under (codes "failures") d)
+  kind ← policy_kind kind_text (number_under (codes "failures") d)
   from_text ← text_under (codes "from") d
   from ← prefix_of from_text
   to_text ← text_under (codes "to") d
   to ← prefix_of to_text
-  service ← services_of d
+  service ← policy_services d
   where_true (has_only (policy_members version kind) d)
       (record { kind = kind; from = from; to = to; service = service })
 
@@ -165,8 +165,8 @@ version_of d = do
 abbrev pub document_from : Data → Option Document
 document_from d = do
   version ← version_of d
-  routers ← routers_of d
-  links ← links_of d
+  routers ← data_routers d
+  links ← data_links d
   policies ← policies_of version d
   weights ← weights_of d
   where_true (has_only document_members d)

@@ -23,60 +23,61 @@ abbrev pub protocol_numbered : ℕ → Option ℕ
 protocol_numbered number = if nat_le 1 number && nat_le number 255 then Some number else None
 
 -- a protocol: one of the names, or a number
-abbrev pub protocol_of : Data → Option ℕ
-protocol_of d =
+abbrev pub data_protocol : Data → Option ℕ
+data_protocol d =
     option_map_or protocol_named (as_str d)
     (option_and_then protocol_numbered (option_and_then as_u64 (as_number d)))
 
 -- a port: a number from 0 to 65535
-abbrev pub port_of : Data → Option ℕ
-port_of d = do
+abbrev pub data_port : Data → Option ℕ
+data_port d = do
   port ← option_and_then as_u64 (as_number d)
   if nat_le port 65535 then Some port else None
 
 -- whether the protocol has ports, as only TCP and UDP have
-abbrev pub has_ports : ℕ → Bool
-has_ports protocol = protocol == 6 || protocol == 17
+abbrev pub allows_ports : ℕ → Bool
+allows_ports protocol = protocol == 6 || protocol == 17
 
 -- whether these are the first and the last service of a range
 abbrev pub are_ends : ℕ → ℕ → Bool
 are_ends low high = nat_le low high && nat_lt high (2 ^ 24)
 
 -- the range with these ends, where the test of them comes out true
-abbrev pub range_if : (low high : ℕ) (test : Bool) → are_ends low high ≡ test → Option Service
-range_if low high false e = None
-range_if low high true e =
+abbrev pub service_range_if : (low high : ℕ) (test : Bool) → are_ends low high ≡ test →
+    Option Service
+service_range_if low high false e = None
+service_range_if low high true e =
     let (ordered, in_range) = and_parts _ _ e in Some (record
     { low = low; high = high; ordered = leb-true _ _ ordered; in_range = ltb-true _ _ in_range })
 
 -- the range with these ends, where they are those of one
-abbrev pub range_from : ℕ → ℕ → Option Service
-range_from low high = range_if low high (are_ends low high) refl
+abbrev pub service_range_from : ℕ → ℕ → Option Service
+service_range_from low high = service_range_if low high (are_ends low high) refl
 
 -- all services of the protocol
 abbrev pub of_protocol : ℕ → Option Service
-of_protocol protocol = range_from (protocol * 65536) (protocol * 65536 + 65535)
+of_protocol protocol = service_range_from (protocol * 65536) (protocol * 65536 + 65535)
 
 -- the one service of the protocol for the port
 abbrev pub of_port : ℕ → ℕ → Option Service
 of_port protocol port =
-    if has_ports protocol
-    then range_from (protocol * 65536 + port) (protocol * 65536 + port) else None
+    if allows_ports protocol
+    then service_range_from (protocol * 65536 + port) (protocol * 65536 + port) else None
 
 -- the services by `proto` and `port`: all where there is neither, and no `port` without a `proto`
 -- that has ports
 abbrev pub services_from : Option Data → Option Data → Option Service
 services_from None None = Some whole_service
 services_from None (Some port) = None
-services_from (Some proto) None = option_and_then of_protocol (protocol_of proto)
+services_from (Some proto) None = option_and_then of_protocol (data_protocol proto)
 services_from (Some proto) (Some port) = do
-  protocol ← protocol_of proto
-  number ← port_of port
+  protocol ← data_protocol proto
+  number ← data_port port
   of_port protocol number
 
 -- the services of which the policy speaks
-abbrev pub services_of : Data → Option Service
-services_of d = services_from (get (codes "proto") d) (get (codes "port") d)
+abbrev pub policy_services : Data → Option Service
+policy_services d = services_from (get (codes "proto") d) (get (codes "port") d)
 
 -- each protocol has 65,536 services
 abbrev pub ProtocolsHaveServices : Type 0
@@ -98,4 +99,4 @@ AreOfOneProtocol s = ((s.low ≡ 0) × (s.high ≡ 16777215)) ⊎ (s.low / 65536
 
 -- a policy is about all services or about some of one protocol
 abbrev pub PoliciesSpeakOfOneProtocol : Type 0
-PoliciesSpeakOfOneProtocol = (d : Data) → IfSome (services_of d) AreOfOneProtocol
+PoliciesSpeakOfOneProtocol = (d : Data) → IfSome (policy_services d) AreOfOneProtocol

@@ -1,6 +1,7 @@
 //! The routers, the links and the policies of a document.
-ghost use Rattle.net_doc.specs.Documents.{router_of, are_different, routers_of, end_of};
-ghost use Rattle.net_doc.specs.Documents.{waypoint_of, link_of, links_of, kind_of, policy_members};
+ghost use Rattle.net_doc.specs.Documents.{router_of, are_different, data_routers, data_end};
+ghost use Rattle.net_doc.specs.Documents.{waypoint_of, data_link, data_links, policy_kind};
+ghost use Rattle.net_doc.specs.Documents.{policy_members};
 ghost use Rattle.net_doc.specs.Documents.{policy_of, policies_of};
 ghost use Rattle.net_doc.specs.Drafts.{kind_meant, policy_meant};
 ghost use Rattle.net_doc.specs.Members.{all_of, has_only, text_under};
@@ -19,7 +20,7 @@ use std::alloc::Global;
 
 /// The routers' files.
 pub(crate) fn read_routers(alloc: Global, value: &Value) -> Result<Option<List<Name>>, Memory>
-    ensures { IfOk result (λ routers. routers ≡ routers_of (view value.now)) }
+    ensures { IfOk result (λ routers. routers ≡ data_routers (view value.now)) }
 {
     let Some(items) = list_under(value, "routers") else {
         return Ok(None);
@@ -71,7 +72,7 @@ fn are_different(alloc: Global, names: &[Name]) -> Result<bool, Memory>
 
 /// The links.
 pub(crate) fn read_links(alloc: Global, value: &Value) -> Result<Option<List<LinkText>>, Memory>
-    ensures { IfOk result (λ links. links ≡ links_of (view value.now)) }
+    ensures { IfOk result (λ links. links ≡ data_links (view value.now)) }
 {
     let Some(items) = list_under(value, "links") else {
         return Ok(None);
@@ -87,7 +88,7 @@ pub(crate) fn read_links(alloc: Global, value: &Value) -> Result<Option<List<Lin
 }
 
 fn read_link(alloc: Global, value: &Value) -> Result<Option<LinkText>, Memory>
-    ensures { IfOk result (λ link. link ≡ link_of (view value.now)) }
+    ensures { IfOk result (λ link. link ≡ data_link (view value.now)) }
 {
     if !has_only(value, &["a", "b", "waypoint"]) {
         return Ok(None);
@@ -119,7 +120,7 @@ fn read_waypoint(value: &Value) -> Option<bool>
 
 fn read_end<'v>(value: &'v Value, name: &str) -> Option<(&'v [u8], &'v [u8])>
     ensures { option_map (λ parts. (parts.0.now, parts.1.now)) result
-        ≡ option_and_then end_of (text_under name.now (view value.now)) }
+        ≡ option_and_then data_end (text_under name.now (view value.now)) }
 {
     cut_at(text_under(value, name)?.as_bytes(), b':')
 }
@@ -193,7 +194,7 @@ fn has_members(value: &Value, kind: KindText) -> bool
 }
 
 fn read_kind(text: &str, failures: Option<u64>) -> Option<KindText>
-    ensures { option_map kind_meant result ≡ kind_of text.now failures }
+    ensures { option_map kind_meant result ≡ policy_kind text.now failures }
 {
     match text {
         "blocked" => Some(KindText::Blocked),

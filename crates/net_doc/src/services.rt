@@ -1,6 +1,7 @@
 //! The services of which a policy speaks.
-ghost use Rattle.net_doc.specs.Services.{protocol_named, protocol_numbered, protocol_of, port_of};
-ghost use Rattle.net_doc.specs.Services.{range_from, of_protocol, of_port, services_of};
+ghost use Rattle.net_doc.specs.Services.{protocol_named, protocol_numbered, data_protocol};
+ghost use Rattle.net_doc.specs.Services.{data_port};
+ghost use Rattle.net_doc.specs.Services.{service_range_from, of_protocol, of_port, policy_services};
 ghost use Rattle.serde_json.specs.View.{view};
 ghost use Rattle.std.specs.Prelude.{◌≡◌, ◌≤◌, ◌+◌, ◌*◌, IfSome};
 
@@ -9,7 +10,7 @@ use serde_json::Value;
 
 /// The services by `proto` and `port`.
 pub(crate) fn read_services(value: &Value) -> Option<Service>
-    ensures { result ≡ services_of (view value.now) }
+    ensures { result ≡ policy_services (view value.now) }
 {
     match value.get("proto") {
         None => match value.get("port") {
@@ -48,14 +49,14 @@ fn of_port(protocol: u32, port: u32) -> Option<Service>
 }
 
 fn range(low: u32, high: u32) -> Option<Service>
-    ensures { result ≡ range_from low high }
+    ensures { result ≡ service_range_from low high }
 {
     Service::new(low, high)
 }
 
 /// The protocol, by its name or its number (as IANA assigns them).
 fn read_protocol(value: &Value) -> Option<u32>
-    ensures value { result ≡ protocol_of (view value.now) }
+    ensures value { result ≡ data_protocol (view value.now) }
     ensures few { IfSome result (λ protocol. protocol ≤ 255) }
 {
     match value.as_str() {
@@ -88,7 +89,7 @@ fn protocol_numbered(number: u64) -> Option<u32>
 }
 
 fn read_port(value: &Value) -> Option<u32>
-    ensures value { result ≡ port_of (view value.now) }
+    ensures value { result ≡ data_port (view value.now) }
     ensures few { IfSome result (λ port. port ≤ 65535) }
 {
     let port = value.as_u64()?;

@@ -23,7 +23,7 @@ link_text n link = record {
 }
 
 -- the prefix is the host network of a router, 10.ROUTER.0.0/24
-pub record IsHostNetwork (router : ℕ) (prefix : Prefix) : Type 0 where
+pub record IsGeneratedHostNetwork (router : ℕ) (prefix : Prefix) : Type 0 where
   pub addr : prefix.addr ≡ 10 * 2 ^ 24 + router * 2 ^ 16
   pub len : prefix.len ≡ 24
 
@@ -44,8 +44,8 @@ asked n = map (asked_around n) (numbers n) ++ record { kind = Blocked; source = 
 -- the policy asks just this, of all services
 pub record Asks (asked : Asked) (policy : Policy) : Type 0 where
   pub kind : policy.kind ≡ asked.kind
-  pub from : IsHostNetwork asked.source policy.from
-  pub to : IsHostNetwork asked.target policy.to
+  pub from : IsGeneratedHostNetwork asked.source policy.from
+  pub to : IsGeneratedHostNetwork asked.target policy.to
   pub service : policy.service ≡ whole_service
 
 -- the document of a network of n routers

@@ -1,5 +1,6 @@
 //! The document of a generated network.
-ghost use Rattle.net_gen.specs.Generated.{IsHostNetwork, Asks, asked, link_text, IsDocument};
+ghost use Rattle.net_gen.specs.Generated.{IsGeneratedHostNetwork, Asks, asked, link_text};
+ghost use Rattle.net_gen.specs.Generated.{IsDocument};
 ghost use Rattle.net_gen.specs.Plans.{numbers, link_count};
 ghost use Rattle.net_gen.specs.RouterFiles.{file_name};
 ghost use Rattle.std.specs.List.{AllZip};
@@ -57,7 +58,7 @@ fn file_names(alloc: Global, routers: u32) -> Result<List<Name>, Memory>
 /// The host network of a router.
 fn host_network(router: u32) -> Prefix
     requires { router ≤ MOST_GENERATED }
-    ensures { IsHostNetwork router result }
+    ensures { IsGeneratedHostNetwork router result }
 {
     Prefix {
         addr: 0x0a00_0000 + router * 0x1_0000,

@@ -7,7 +7,7 @@ use Rattle.net_model.specs.declared.policies.Class.{Class}
 use Rattle.net_model.specs.declared.policies.PolicyKind.{PolicyKind}
 use Rattle.net_model.specs.declared.policies.PolicyKind.TheVariants.{Blocked, Through}
 use Rattle.net_model.specs.declared.rows.Network.{Network}
-use Rattle.net_model.specs.Packets.{IsOf}
+use Rattle.net_model.specs.Packets.{IsOfClass}
 use Rattle.net_model.specs.Routing.{Arc, tail_router, head_router}
 use Rattle.net_model.specs.Forwarding.{Ends, Walk, IsDelivered, source_router, target_router}
 use Rattle.net_model.specs.Policies.{CrossesWaypoint}
@@ -42,7 +42,7 @@ all_break [] = tt
 all_break (arc ∷ arcs) = (tt, all_break arcs)
 
 module _ (net : Network) (ends : Ends) (kind : PolicyKind) (class : Class) (side : List Bool) (closed : IsClosed net ends kind class side)
-    (failed : ℕ → Bool) (d : ℕ → Option ℕ) (p : Packet) (of : IsOf class p) where
+    (failed : ℕ → Bool) (d : ℕ → Option ℕ) (p : Packet) (of : IsOfClass class p) where
   -- a walk that begins on the side ends there
   pub stays : (arcs : List Arc) (u v : ℕ) → Walk net ends.to failed d p u arcs v → AllByRecursion (MayBreak kind) arcs → IsOn side u → IsOn side v
   stays [] u v walk breaks on = subst (IsOn side) walk on
@@ -61,18 +61,18 @@ module _ (net : Network) (ends : Ends) (kind : PolicyKind) (class : Class) (side
 
 -- the side of the packet's class
 side_of : (net : Network) (ends : Ends) (kind : PolicyKind) (whole : Class) (sides : List ClassSide) → IsRightClosed net ends kind whole sides →
-    (p : Packet) → IsOf whole p → (c : ClassSide) × IsRightSide net ends kind whole c × IsOf c.class p
+    (p : Packet) → IsOfClass whole p → (c : ClassSide) × IsRightSide net ends kind whole c × IsOfClass c.class p
 side_of net ends kind whole sides shown p of =
     covered whole sides (IsRightSide net ends kind whole) shown.disjoint (λ k d l. (shown.right k d l).part) shown.right shown.all p of
 
 pub closed_block : ClosedSidesBlock
 closed_block net ends whole sides shown failed d stable p of arcs delivered =
-    let c : (c : ClassSide) × IsRightSide net ends Blocked whole c × IsOf c.class p = side_of net ends Blocked whole sides shown p of in
+    let c : (c : ClassSide) × IsRightSide net ends Blocked whole c × IsOfClass c.class p = side_of net ends Blocked whole sides shown p of in
     not_delivered net ends Blocked c.0.class c.0.side c.1.closed failed d p c.2 arcs (all_break arcs) delivered
 
 pub closed_force_through : ClosedSidesForceThrough
 closed_force_through net ends whole sides shown failed d stable p of arcs delivered =
-    let c : (c : ClassSide) × IsRightSide net ends Through whole c × IsOf c.class p = side_of net ends Through whole sides shown p of in
+    let c : (c : ClassSide) × IsRightSide net ends Through whole c × IsOfClass c.class p = side_of net ends Through whole sides shown p of in
     elim (break_or_cross arcs) [
       | inl breaks ↦ absurd (not_delivered net ends Through c.0.class c.0.side c.1.closed failed d p c.2 arcs breaks delivered)
       | inr crosses ↦ crosses

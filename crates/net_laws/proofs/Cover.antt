@@ -13,7 +13,7 @@ use Rattle.net_model.specs.declared.policies.Class.{Class}
 use Rattle.net_model.specs.declared.verdicts.ClassSide.{ClassSide}
 use Rattle.net_model.specs.declared.services.Service.{Service}
 use Rattle.net_model.specs.Services.{serves, Serves, services}
-use Rattle.net_model.specs.Packets.{IsOf, LiesIn, ShareNoPacket, packets}
+use Rattle.net_model.specs.Packets.{IsOfClass, LiesIn, ShareNoPacket, packets}
 use Rattle.net_model.proofs.ServiceRanges.{bounds}
 use Rattle.net_laws.proofs.Counting.{total, ind, addresses}
 use Rattle.net_laws.proofs.Triples.{true_or_false, triples, triples-none, triples-sum, triples-product, triples-tight, counted_services}
@@ -23,7 +23,7 @@ abbrev pub count_in : Class → ℕ → ℕ → ℕ → ℕ
 count_in c a b s = ind (holds c.from a) * ind (holds c.to b) * ind (serves c.service s)
 
 -- the class has the packet, or counts it as 0
-in_or_zero : (c : Class) (p : Packet) → IsOf c p ⊎ (count_in c p.from p.to p.service ≡ 0)
+in_or_zero : (c : Class) (p : Packet) → IsOfClass c p ⊎ (count_in c p.from p.to p.service ≡ 0)
 in_or_zero c p =
     elim (true_or_false (holds c.from p.from)) [
       | inl from ↦ elim (true_or_false (holds c.to p.to)) [
@@ -42,7 +42,7 @@ in_or_zero c p =
           inr (omega (arith, ap (λ (x : ℕ). x * ind (holds c.to p.to) * ind (serves c.service p.service)) z))
     ]
 
-in_is_one : (c : Class) (p : Packet) → IsOf c p → count_in c p.from p.to p.service ≡ 1
+in_is_one : (c : Class) (p : Packet) → IsOfClass c p → count_in c p.from p.to p.service ≡ 1
 in_is_one c p of =
     let x : ind (holds c.from p.from) ≡ 1 = ap ind of.0 in
     let y : ind (holds c.to p.to) ≡ 1 = ap ind of.1 in
@@ -91,7 +91,7 @@ pub All-rest : {X : Type 0} (P : X → Type 0) (x : X) (xs : List X) → All P (
 All-rest P x xs h = λ k d l. h (suc k) d (omega arith)
 
 -- where one class has the packet, those apart from it do not
-none_else : (c : ClassSide) (cs : List ClassSide) → All (Apart c) cs → (p : Packet) → IsOf c.class p → count_all cs p.from p.to p.service ≡ 0
+none_else : (c : ClassSide) (cs : List ClassSide) → All (Apart c) cs → (p : Packet) → IsOfClass c.class p → count_all cs p.from p.to p.service ≡ 0
 none_else c [] apart p of = refl
 none_else c (d ∷ cs) apart p of =
     let rest : count_all cs p.from p.to p.service ≡ 0 = none_else c cs (All-rest (Apart c) d cs apart) p of in
@@ -136,7 +136,7 @@ Serves-below : (s : Service) (n : ℕ) → Serves s n → n < 2 ^ 24
 Serves-below s n h = let top : s.high < 2 ^ 24 = s.in_range in omega (arith, top, (bounds s n h).1)
 
 -- a class that is counted has the packet
-found : (Q : ClassSide → Type 0) (cs : List ClassSide) → All Q cs → (p : Packet) → 1 ≤ count_all cs p.from p.to p.service → (c : ClassSide) × Q c × IsOf c.class p
+found : (Q : ClassSide → Type 0) (cs : List ClassSide) → All Q cs → (p : Packet) → 1 ≤ count_all cs p.from p.to p.service → (c : ClassSide) × Q c × IsOfClass c.class p
 found Q [] all p some = absurd (omega arith)
 found Q (c ∷ cs) all p some =
     elim (in_or_zero c.class p) [
@@ -157,7 +157,7 @@ module _ (n m : ℕ) (addresses_all : n ≡ 2 ^ 32) (services_all : m ≡ 2 ^ 24
 
 -- each packet of the whole is of one of the classes
 pub covered : (whole : Class) (cs : List ClassSide) (Q : ClassSide → Type 0) → AllPairs Apart cs → All (λ c. LiesIn c.class whole) cs → All Q cs →
-    sum_by (λ c. packets c.class) cs ≡ packets whole → (p : Packet) → IsOf whole p → (c : ClassSide) × Q c × IsOf c.class p
+    sum_by (λ c. packets c.class) cs ≡ packets whole → (p : Packet) → IsOfClass whole p → (c : ClassSide) × Q c × IsOfClass c.class p
 covered whole cs Q apart part all same p of =
     let one : count_in whole p.from p.to p.service ≡ 1 = in_is_one whole p of in
     let enough : count_in whole p.from p.to p.service ≤ count_all cs p.from p.to p.service =

@@ -10,7 +10,7 @@ use Rattle.arc_base.specs.declared.prefix.Prefix.{Prefix}
 use Rattle.net_model.specs.declared.lists.Packet.{Packet}
 use Rattle.net_model.specs.declared.policies.Class.{Class}
 use Rattle.net_model.specs.declared.rows.Network.{Network}
-use Rattle.net_model.specs.Packets.{IsOf, first_packet}
+use Rattle.net_model.specs.Packets.{IsOfClass, first_packet}
 use Rattle.net_model.specs.Routing.{Arc, IsArc, IsRouted, IsStable, Offers, cost, head_router}
 use Rattle.net_model.specs.Forwarding.{Ends, AreEnds, Enters, Leaves, Attains, ArcPermits, Walk, IsStuck, failures, source_router, target_router}
 use Rattle.net_model.specs.Validity.{IsValid, IsValidFace}
@@ -126,7 +126,7 @@ cut_breaks net valid ends k whole links side are cut =
     let shown : (failures net (among links) ≤ k) × ((d : ℕ → Option ℕ) → IsStable net ends.to (target_router ends) (among links) d → d (source_router ends) ≡ None) =
     right_cuts_separate net valid ends k whole links side are cut in
     let d : (d : ℕ → Option ℕ) × IsStable net ends.to (target_router ends) (among links) d = some_stable_map net valid ends.to (target_router ends) (among links) in
-    let p : (p : Packet) × IsOf whole p = (first_packet whole, first_is_of whole) in
+    let p : (p : Packet) × IsOfClass whole p = (first_packet whole, first_is_of whole) in
     record {
       spoken = shown.0;
       broken = λ (reaches : ReachesUnder net ends whole (among links)).
@@ -165,8 +165,8 @@ not_reached_when_denied : (net : Network) → IsValid net → (ends : Ends) (who
     ReachesUnder net ends whole no_link → ⊥
 not_reached_when_denied net valid ends whole class are denial reaches =
     let d : (d : ℕ → Option ℕ) × IsStable net ends.to (target_router ends) no_link d = some_stable_map net valid ends.to (target_router ends) no_link in
-    let p : (p : Packet) × IsOf class p = (first_packet class, first_is_of class) in
-    let of : IsOf whole p.0 = part_of class whole p.0 denial.part p.1 in
+    let p : (p : Packet) × IsOfClass class p = (first_packet class, first_is_of class) in
+    let of : IsOfClass whole p.0 = part_of class whole p.0 denial.part p.1 in
     let reach : Enters net ends p.0 × ((arcs : List Arc) → ¬ IsStuck net ends no_link d.0 p.0 arcs) = reaches d.0 d.1 p.0 of in
     let stays : ¬ Leaves net ends p.0 = denial.denied p.0 p.1 reach.0 in
     elim (value_of (d.0 (source_router ends))) [

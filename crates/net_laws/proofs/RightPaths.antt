@@ -8,7 +8,7 @@ use Rattle.net_model.specs.declared.lists.Packet.{Packet}
 use Rattle.net_model.specs.declared.policies.Class.{Class}
 use Rattle.net_model.specs.declared.verdicts.LinkPath.{LinkPath}
 use Rattle.net_model.specs.declared.rows.Network.{Network}
-use Rattle.net_model.specs.Packets.{IsOf}
+use Rattle.net_model.specs.Packets.{IsOfClass}
 use Rattle.net_model.specs.Routing.{Arc, IsArc, IsStable, Offers, cost, tail_router, head_router, tail_face}
 use Rattle.net_model.specs.Forwarding.{Ends, Attains, Walk, Leaves, IsDenied, IsStuck, failures, source_router, target_router}
 use Rattle.net_model.specs.Policies.{IsClear}
@@ -75,7 +75,7 @@ source_known net valid ends k whole paths right failed d few stable =
 
 -- a packet that is clear and leaves is stuck nowhere on its walks
 pub not_stuck : (net : Network) → IsValid net → (ends : Ends) (whole : Class) → IsClear net ends whole → (failed : ℕ → Bool) (d : ℕ → Option ℕ) →
-    IsStable net ends.to (target_router ends) failed d → (p : Packet) → IsOf whole p → Leaves net ends p → ((n : ℕ) × (d (source_router ends) ≡ Some n)) →
+    IsStable net ends.to (target_router ends) failed d → (p : Packet) → IsOfClass whole p → Leaves net ends p → ((n : ℕ) × (d (source_router ends) ≡ Some n)) →
     (arcs : List Arc) → IsStuck net ends failed d p arcs → ⊥
 not_stuck net valid ends whole clear failed d stable p of leaves source arcs stuck =
     elim stuck.stuck [

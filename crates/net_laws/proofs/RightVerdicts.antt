@@ -18,7 +18,7 @@ use Rattle.net_model.specs.Policies.{HoldsAs, MeetsAs, Meets}
 use Rattle.arc_base.specs.declared.place.Link.{Link}
 use Rattle.net_model.specs.Validity.{IsValid}
 use Rattle.net_model.specs.Witnesses.{is_yes, IsRight, IsRightFor}
-use Rattle.net_laws.specs.Laws.{RightVerdictsDecide, RightVerdictsAreTrue, Says}
+use Rattle.net_laws.specs.Laws.{RightVerdictsDecide, RightVerdictsAreTrue, VerdictSays}
 use Rattle.net_model.proofs.Hosts.{one_pair_of_ends}
 use Rattle.net_laws.proofs.ClosedSides.{closed_block, closed_force_through}
 use Rattle.net_laws.proofs.RightWalks.{right_walks_unblock, right_walks_bypass}
@@ -26,7 +26,7 @@ use Rattle.net_laws.proofs.RightPaths.{right_paths_reach, refusals_are_right}
 use Rattle.net_laws.proofs.RightCuts.{right_cuts_break_reach, right_denials_break_reach}
 
 says : (net : Network) → IsValid net → (ends : Ends) (whole : Class) → AreEnds net whole ends → (kind : PolicyKind) (v : Verdict) →
-    IsRightFor net ends kind whole v → Says net ends whole kind v
+    IsRightFor net ends kind whole v → VerdictSays net ends whole kind v
 says net valid ends whole are Blocked (Closed sides) right = closed_block net ends whole sides right
 says net valid ends whole are Blocked (Walk class path) right = right_walks_unblock net ends whole class path right
 says net valid ends whole are Blocked (Paths paths) right = absurd right

@@ -12,7 +12,7 @@ use Rattle.net_model.specs.declared.policies.PolicyKind.{PolicyKind}
 use Rattle.net_model.specs.declared.policies.PolicyKind.TheVariants.{Blocked, Through}
 use Rattle.net_model.specs.declared.verdicts.LinkPath.{LinkPath}
 use Rattle.net_model.specs.declared.rows.Network.{Network}
-use Rattle.net_model.specs.Packets.{IsOf, LiesIn, first_packet}
+use Rattle.net_model.specs.Packets.{IsOfClass, LiesIn, first_packet}
 use Rattle.net_model.specs.Routing.{Arc}
 use Rattle.net_model.specs.Forwarding.{Ends, source_router, target_router}
 use Rattle.net_model.specs.Policies.{CrossesWaypoint}
@@ -64,7 +64,7 @@ module _ (net : Network) (ends : Ends) (kind : PolicyKind) (whole class : Class)
 pub right_walks_are_delivered : RightWalksAreDelivered
 right_walks_are_delivered net ends kind whole class shown right = delivers net ends kind whole class shown right
 
-pub part_of : (class whole : Class) (p : Packet) → LiesIn class whole → IsOf class p → IsOf whole p
+pub part_of : (class whole : Class) (p : Packet) → LiesIn class whole → IsOfClass class p → IsOfClass whole p
 part_of class whole p lies of = (lies.0 p.from of.0, lies.1 p.to of.1, lies.2 p.service of.2)
 
 -- with every link failed but those of a right walk the class is not blocked
@@ -72,7 +72,7 @@ pub walk_breaks_blocked : (net : Network) (ends : Ends) (whole class : Class) (s
     BreaksAs net ends whole Blocked (all_but shown)
 walk_breaks_blocked net ends whole class shown right =
     let d : Delivers net ends class shown right.path.arcs = delivers net ends Blocked whole class shown right in
-    let p : (p : Packet) × IsOf class p = (first_packet class, first_is_of class) in
+    let p : (p : Packet) × IsOfClass class p = (first_packet class, first_is_of class) in
     record {
       spoken = tt;
       broken = λ (blocked : BlockedUnder net ends whole (all_but shown)).
@@ -95,7 +95,7 @@ pub walk_breaks_through : (net : Network) (ends : Ends) (whole class : Class) (s
     BreaksAs net ends whole Through (all_but shown)
 walk_breaks_through net ends whole class shown right =
     let d : Delivers net ends class shown right.path.arcs = delivers net ends Through whole class shown right in
-    let p : (p : Packet) × IsOf class p = (first_packet class, first_is_of class) in
+    let p : (p : Packet) × IsOfClass class p = (first_packet class, first_is_of class) in
     record {
       spoken = tt;
       broken = λ (through : ThroughUnder net ends whole (all_but shown)).

@@ -11,7 +11,7 @@ use Rattle.net_model.specs.declared.lists.PacketEntry.{PacketEntry}
 use Rattle.net_model.specs.declared.rows.FaceRow.{FaceRow}
 use Rattle.net_model.specs.Lists.{matches, permits}
 use Rattle.net_model.specs.Services.{serves, whole_service}
-use Rattle.net_model.specs.Packets.{IsOf}
+use Rattle.net_model.specs.Packets.{IsOfClass}
 use Rattle.net_model.specs.declared.policies.PolicyKind.TheVariants.{Blocked}
 use Rattle.net_model.specs.Witnesses.{IsRightWalk}
 use Rattle.net_laws.proofs.RightWalks.{right_walks_unblock}
@@ -227,7 +227,7 @@ next : (b : Arc) → Attains square users_4 (λ link. false) distances b → (ta
 next b a = taken b a (at GoesTo goes_to b.link b.from_a b a.usable.is_arc refl refl)
 
 -- the list denies them
-denied : (p : Packet) → IsOf across p → permits list_101.entries p ≡ false
+denied : (p : Packet) → IsOfClass across p → permits list_101.entries p ≡ false
 denied p of =
     let both : (holds users_1 p.from && holds users_4 p.to && serves whole_service p.service) ≡ true =
     ap (λ (b : Bool). b && holds users_4 p.to && serves whole_service p.service) of.0
@@ -236,7 +236,7 @@ denied p of =
     (if b then Some (record { permit = false; from = users_1; to = users_4; service = whole_service }) else find (matches p)
     (record { permit = true; from = everyone; to = everyone; service = whole_service } ∷ [])) false) both
 
-walks_nowhere : (p : Packet) → IsOf across p → (arcs : List Arc) → Walk square users_4 (λ link. false) distances p 0 arcs 3 → ⊥
+walks_nowhere : (p : Packet) → IsOfClass across p → (arcs : List Arc) → Walk square users_4 (λ link. false) distances p 0 arcs 3 → ⊥
 walks_nowhere p of [] w = omega (arith, w)
 walks_nowhere p of (a ∷ []) w =
     let to : head_router a ≡ 1 = (next a w.1).0 w.0 in

@@ -9,7 +9,7 @@ use Rattle.net_model.specs.declared.policies.PolicyKind.TheVariants.{Blocked, Th
 use Rattle.net_model.specs.declared.rows.Network.{Network}
 use Rattle.net_model.specs.declared.verdicts.Verdict.{Verdict}
 use Rattle.net_model.specs.declared.verdicts.Verdict.TheVariants.{Walk, Cut}
-use Rattle.net_model.specs.Packets.{IsOf, subject}
+use Rattle.net_model.specs.Packets.{IsOfClass, subject}
 use Rattle.net_model.specs.Routing.{Arc, FailureSet, DistanceMap, IsStable}
 use Rattle.net_model.specs.Forwarding.{Ends, AreEnds, Enters, IsDelivered, IsStuck, failures}
 use Rattle.net_model.specs.Forwarding.{target_router}
@@ -24,13 +24,13 @@ no_link link = false
 abbrev pub BlockedUnder : Network → Ends → Class → FailureSet → Type 0
 BlockedUnder net ends class failed =
     (d : DistanceMap) → IsStable net ends.to (target_router ends) failed d →
-    (p : Packet) → IsOf class p → (arcs : List Arc) → IsDelivered net ends failed d p arcs → ⊥
+    (p : Packet) → IsOfClass class p → (arcs : List Arc) → IsDelivered net ends failed d p arcs → ⊥
 
 -- under this failure set the arcs over which a packet of the class is delivered cross a waypoint
 abbrev pub ThroughUnder : Network → Ends → Class → FailureSet → Type 0
 ThroughUnder net ends class failed =
     (d : DistanceMap) → IsStable net ends.to (target_router ends) failed d →
-    (p : Packet) → IsOf class p →
+    (p : Packet) → IsOfClass class p →
     (arcs : List Arc) → IsDelivered net ends failed d p arcs → CrossesWaypoint arcs
 
 -- the class reaches its target under this failure set: each packet of it enters and is stuck after
@@ -38,7 +38,7 @@ ThroughUnder net ends class failed =
 abbrev pub ReachesUnder : Network → Ends → Class → FailureSet → Type 0
 ReachesUnder net ends class failed =
     (d : DistanceMap) → IsStable net ends.to (target_router ends) failed d →
-    (p : Packet) → IsOf class p →
+    (p : Packet) → IsOfClass class p →
     Enters net ends p × ((arcs : List Arc) → ¬ IsStuck net ends failed d p arcs)
 
 -- what a kind of policy asks of the class holds under this failure set

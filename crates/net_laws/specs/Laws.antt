@@ -15,7 +15,7 @@ use Rattle.net_model.specs.declared.verdicts.Verdict.TheVariants.{Refused}
 use Rattle.net_model.specs.declared.verdicts.ClassSide.{ClassSide}
 use Rattle.net_model.specs.declared.verdicts.LinkPath.{LinkPath}
 use Rattle.net_model.specs.Validity.{IsValid}
-use Rattle.net_model.specs.Packets.{IsOf, subject}
+use Rattle.net_model.specs.Packets.{IsOfClass, subject}
 use Rattle.net_model.specs.Routing.{Arc, FailureSet, DistanceMap, IsStable}
 use Rattle.net_model.specs.Forwarding.{Ends, AreEnds, IsDelivered, failures, source_router}
 use Rattle.net_model.specs.Forwarding.{target_router}
@@ -51,7 +51,7 @@ pub record Delivers (net : Network) (ends : Ends) (class : Class) (shown : LinkP
     (arcs : List Arc) : Type 0 where
   pub distances : DistanceMap
   pub stable : IsStable net ends.to (target_router ends) (all_but shown) distances
-  pub delivered : (p : Packet) → IsOf class p →
+  pub delivered : (p : Packet) → IsOfClass class p →
       IsDelivered net ends (all_but shown) distances p arcs
 
 -- a right walk delivers its class over its path
@@ -123,19 +123,21 @@ HasOnePairOfEnds net =
 
 -- what a verdict says of a class: a yes that it meets the kind of policy, a no that what the kind
 -- asks does not hold, a refusal that it is not clear
-abbrev pub Says : Network → Ends → Class → PolicyKind → Verdict → Type 0
-Says net ends whole kind (Closed sides) = MeetsAs net ends whole kind
-Says net ends whole kind (Paths paths) = MeetsAs net ends whole kind
-Says net ends whole kind (Walk class path) = ¬ HoldsAs net ends whole kind
-Says net ends whole kind (Denied class) = IsClear net ends whole × (¬ HoldsAs net ends whole kind)
-Says net ends whole kind (Cut links side) = IsClear net ends whole × (¬ HoldsAs net ends whole kind)
-Says net ends whole kind (Refused p link) = ¬ IsClear net ends whole
+abbrev pub VerdictSays : Network → Ends → Class → PolicyKind → Verdict → Type 0
+VerdictSays net ends whole kind (Closed sides) = MeetsAs net ends whole kind
+VerdictSays net ends whole kind (Paths paths) = MeetsAs net ends whole kind
+VerdictSays net ends whole kind (Walk class path) = ¬ HoldsAs net ends whole kind
+VerdictSays net ends whole kind (Denied class) = IsClear net ends whole ×
+    (¬ HoldsAs net ends whole kind)
+VerdictSays net ends whole kind (Cut links side) = IsClear net ends whole ×
+    (¬ HoldsAs net ends whole kind)
+VerdictSays net ends whole kind (Refused p link) = ¬ IsClear net ends whole
 
 -- what a right verdict says is true
 abbrev pub RightVerdictsAreTrue : Network → Type 0
 RightVerdictsAreTrue net =
     (policy : Policy) (v : Verdict) →
-    (right : IsRight net policy v) → Says net right.ends (subject policy) policy.kind v
+    (right : IsRight net policy v) → VerdictSays net right.ends (subject policy) policy.kind v
 
 -- a right verdict is a yes exactly where the network meets the policy
 abbrev pub RightVerdictsDecide : Network → Type 0

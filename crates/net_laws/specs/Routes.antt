@@ -5,7 +5,7 @@ use Rattle.arc_base.specs.declared.prefix.Prefix.{Prefix}
 use Rattle.net_model.specs.declared.lists.Packet.{Packet}
 use Rattle.net_model.specs.declared.policies.Class.{Class}
 use Rattle.net_model.specs.declared.rows.Network.{Network}
-use Rattle.net_model.specs.Packets.{IsOf}
+use Rattle.net_model.specs.Packets.{IsOfClass}
 use Rattle.net_model.specs.Routing.{Arc, FailureSet, IsUsable, tail_router, head_router}
 use Rattle.net_model.specs.Forwarding.{Ends, AreEnds, Enters, Leaves, source_router, target_router}
 use Rattle.net_model.specs.Policies.{IsClear, Reaches}
@@ -18,7 +18,7 @@ just link = among (link ∷ [])
 
 -- each packet of the class enters and leaves
 abbrev pub Passes : Network → Ends → Class → Type 0
-Passes net ends class = (p : Packet) → IsOf class p → Enters net ends p × Leaves net ends p
+Passes net ends class = (p : Packet) → IsOfClass class p → Enters net ends p × Leaves net ends p
 
 -- the arcs are a route from the one router to the other: each can be used, and begins where the one
 -- before ends

@@ -20,7 +20,7 @@ use Rattle.net_model.specs.declared.policies.PolicyKind.TheVariants.{Blocked, Re
 use Rattle.net_model.specs.declared.verdicts.LinkPath.{LinkPath}
 use Rattle.net_model.specs.declared.verdicts.Verdict.TheVariants.{Walk, Refused}
 use Rattle.net_model.specs.Services.{whole_service}
-use Rattle.net_model.specs.Packets.{IsOf}
+use Rattle.net_model.specs.Packets.{IsOfClass}
 use Rattle.net_model.specs.Routing.{Arc, DistanceMap, IsStable}
 use Rattle.net_model.specs.Forwarding.{Ends, IsDelivered}
 use Rattle.net_model.specs.Policies.{IsBlocked}
@@ -185,7 +185,7 @@ ends = record { source = owner_1; target = owner_4; to = users_4 }
 -- with all links up none of them is delivered
 abbrev pub SquareDeliversNone : Type 0
 SquareDeliversNone =
-    (p : Packet) → IsOf across p →
+    (p : Packet) → IsOfClass across p →
     (arcs : List Arc) → ¬ IsDelivered square ends (λ link. false) distances p arcs
 
 -- and yet they are not blocked

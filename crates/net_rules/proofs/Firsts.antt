@@ -8,10 +8,10 @@ use Rattle.net_doc.specs.declared.fault.Refusal.{Refusal}
 use Rattle.net_doc.specs.declared.fault.NetFault.{NetFault}
 use Rattle.net_doc.specs.declared.fault.NetFault.TheVariants.{Refused}
 use Rattle.ios_config.specs.Least.{IsLeast}
-use Rattle.net_rules.specs.Reasons.{IsBefore, IsClear, IsFirst, Tried, InFiles, InDocument}
+use Rattle.net_rules.specs.Reasons.{IsBefore, NoRefusal, IsEarliest, Tried, InFiles, InDocument}
 
 -- a refusal that a function made is that of the try
-pub tried_refused : {X : Type 0} (Reason : Refusal → Type 0) (IsRight : X → Type 0) (fault : NetFault) (r : Refusal) → fault ≡ Refused r → IsFirst Reason r → Tried Reason IsRight (Err fault)
+pub tried_refused : {X : Type 0} (Reason : Refusal → Type 0) (IsRight : X → Type 0) (fault : NetFault) (r : Refusal) → fault ≡ Refused r → IsEarliest Reason r → Tried Reason IsRight (Err fault)
 tried_refused Reason IsRight fault r is first = subst (λ (f : NetFault). Tried Reason IsRight (Err f)) (sym is) first
 
 at_place_is : {X : Type 0} (xs : List X) (n : ℕ) (x : X) → n < length xs → x ≡ get_or xs n x → slice_get xs n ≡ Some x
@@ -32,12 +32,12 @@ module _ {X : Type 0} (kind : Kind) (Offends : ℕ → X → ℕ → Type 0) (it
         λ bad. now number (subst (λ (k : ℕ). Offends k item number) same (subst (λ (x : X). Offends place x number) item_is bad))
   ]
 
-  pub clear_all : (n : ℕ) → length items ≤ n → ClearTo n → IsClear (InFiles kind Offends items)
+  pub clear_all : (n : ℕ) → length items ≤ n → ClearTo n → NoRefusal (InFiles kind Offends items)
   clear_all n past clear r bad = clear bad.place bad.item bad.number (omega (arith, slice_get_within items bad.place bad.item bad.at_place, past)) bad.at_place bad.offends
 
   -- the first item that offends, at its least number
   pub first_found : (n : ℕ) (item : X) (number : ℕ) → n < length items → item ≡ get_or items n item → ClearTo n → IsLeast (Offends n item) number →
-      IsFirst (InFiles kind Offends items) (record { file = n + 1; number = number; kind = kind })
+      IsEarliest (InFiles kind Offends items) (record { file = n + 1; number = number; kind = kind })
   first_found n item number within is clear least = record {
     made = record { place = n; item = item; at_place = at_place_is items n item within is; number = number; offends = least.has; told = refl };
     first = λ other bad. not_before other bad;
@@ -74,12 +74,12 @@ module _ {X : Type 0} (kind : Kind) (Offends : ℕ → X → Type 0) (items : Li
         λ bad. now (subst (λ (k : ℕ). Offends k item) same (subst (λ (x : X). Offends place x) item_is bad))
   ]
 
-  pub none_all : (n : ℕ) → length items ≤ n → NoneTo n → IsClear (InDocument kind Offends items)
+  pub none_all : (n : ℕ) → length items ≤ n → NoneTo n → NoRefusal (InDocument kind Offends items)
   none_all n past clear r bad = clear bad.place bad.item (omega (arith, slice_get_within items bad.place bad.item bad.at_place, past)) bad.at_place bad.offends
 
   -- the first item that offends
   pub first_item : (n : ℕ) (item : X) → n < length items → item ≡ get_or items n item → NoneTo n → Offends n item →
-      IsFirst (InDocument kind Offends items) (record { file = 0; number = n + 1; kind = kind })
+      IsEarliest (InDocument kind Offends items) (record { file = 0; number = n + 1; kind = kind })
   first_item n item within is clear offends = record {
     made = record { place = n; item = item; at_place = at_place_is items n item within is; offends = offends; told = refl };
     first = λ other bad. not_before other bad;
@@ -98,7 +98,7 @@ module _ {X : Type 0} (kind : Kind) (Offends : ℕ → X → Type 0) (items : Li
 module _ {X : Type 0} (kind : Kind) (Good : X → Type 0) (items : List X) (n : ℕ) (item : X) (within : n < length items) (is : item ≡ get_or items n item) (passes : Bool)
     (said : IsTrue passes ↔ Good item) where
   pub bad_item : NoneTo kind (λ (place : ℕ) (x : X). ¬ Good x) items n → passes ≡ false →
-      IsFirst (InDocument kind (λ (place : ℕ) (x : X). ¬ Good x) items) (record { file = 0; number = n + 1; kind = kind })
+      IsEarliest (InDocument kind (λ (place : ℕ) (x : X). ¬ Good x) items) (record { file = 0; number = n + 1; kind = kind })
   bad_item clear fails = first_item kind (λ (place : ℕ) (x : X). ¬ Good x) items n item within is clear (λ good. false≢true (sym fails ∙ said.1 good))
 
   pub good_item : NoneTo kind (λ (place : ℕ) (x : X). ¬ Good x) items n → passes ≡ true → NoneTo kind (λ (place : ℕ) (x : X). ¬ Good x) items (n + 1)

@@ -8,7 +8,7 @@ use Rattle.arc_base.specs.declared.refusal.Kind.TheVariants as kinds
 use Rattle.ios_config.specs.declared.settings.Config.{Config}
 use Rattle.ios_config.specs.declared.settings.Setting.{Setting}
 use Rattle.net_rules.specs.Sites.{host_name}
-use Rattle.net_rules.specs.Reasons.{IsClear}
+use Rattle.net_rules.specs.Reasons.{NoRefusal}
 use Rattle.net_rules.specs.Routers.{NamesRouter, HasNoOwnName, RefusesHostname}
 use Rattle.net_rules.proofs.Named.{IsNamed, named_so}
 
@@ -19,7 +19,7 @@ earlier (y ∷ xs) i zero x h at = absurd (omega (arith, h))
 earlier (y ∷ xs) zero (suc j) x h at = at
 earlier (y ∷ xs) (suc i) (suc j) x h at = earlier xs i j x (omega arith) at
 
-module _ (configs : List Config) (clear : IsClear (RefusesHostname configs)) where
+module _ (configs : List Config) (clear : NoRefusal (RefusesHostname configs)) where
   own : (k : ℕ) (config : Config) → slice_get configs k ≡ Some config → (line : ℕ) → ¬ HasNoOwnName configs k config line
   own k config at line bad =
       clear (record { file = k + 1; number = line; kind = kinds.Hostname }) (record { place = k; item = config; at_place = at; number = line; offends = bad; told = refl })

@@ -18,7 +18,7 @@ use Rattle.arc_base.specs.Lists.{AreDistinct}
 use Rattle.net_rules.specs.Lists.{packet_list_key}
 use Rattle.net_rules.specs.Sites.{FullName, sites, full_name, full_names, a_end, b_end, two_ends, ends_of}
 use Rattle.net_rules.specs.Rows.{IsFaceRow, IsLinkRow, AreBaseRows}
-use Rattle.net_rules.specs.Reasons.{IsClear}
+use Rattle.net_rules.specs.Reasons.{NoRefusal}
 use Rattle.net_rules.specs.Routers.{RefusesHostname}
 use Rattle.net_rules.specs.Linking.{JoinsFree, RefusesLinkFace}
 use Rattle.net_rules.specs.Limits.{RefusesInterfaces}
@@ -29,11 +29,11 @@ use Rattle.arc_base.proofs.Items.{Contains-head, Contains-tail, Contains-piece}
 use Rattle.arc_base.proofs.Zips.{AllZip-left, AllZip-length}
 
 -- where no name of a router is refused, the full names are distinct
-pub names_distinct : (configs : List Config) → IsClear (RefusesHostname configs) → All IsWellFormed configs → AreDistinct (full_names configs)
+pub names_distinct : (configs : List Config) → NoRefusal (RefusesHostname configs) → All IsWellFormed configs → AreDistinct (full_names configs)
 names_distinct configs clear forms = full_names_distinct configs (hosts_differ configs clear) (λ k d l. (forms k d l).faces_differ)
 
 -- where no file is refused for its interfaces, each has few
-pub few_files : (configs : List Config) → IsClear (RefusesInterfaces configs) → All (λ config. length config.faces ≤ 256) configs
+pub few_files : (configs : List Config) → NoRefusal (RefusesInterfaces configs) → All (λ config. length config.faces ≤ 256) configs
 few_files configs clear i d l = elim (cases_lt 256 (length (get_or configs i d).faces)) [
   | inl many ↦ absurd (clear (record { file = i + 1; number = 0; kind = kinds.Limit limits.Interfaces (length (get_or configs i d).faces) })
       (record { place = i; config = get_or configs i d; at_place = slice_get-get_or configs i d l; many = many; told = refl }))
@@ -44,7 +44,7 @@ few_files configs clear i d l = elim (cases_lt 256 (length (get_or configs i d).
 pub one_name : (configs : List Config) (i j : ℕ) (x y : FullName) → slice_get (full_names configs) i ≡ Some x → slice_get (full_names configs) j ≡ Some y → i ≡ j → x ≡ y
 one_name configs i j x y at_x at_y e = one_item (full_names configs) j x y (subst (λ (n : ℕ). slice_get (full_names configs) n ≡ Some x) e at_x) at_y
 
-module _ (doc : Document) (configs : List Config) (clear : IsClear (RefusesLinkFace doc configs)) where
+module _ (doc : Document) (configs : List Config) (clear : NoRefusal (RefusesLinkFace doc configs)) where
   pub joins_free : (place : ℕ) (link : LinkText) → slice_get doc.links place ≡ Some link → ¬ (¬ JoinsFree (full_names configs) (take place doc.links) link)
   joins_free place link at bad =
       clear (record { file = 0; number = place + 1; kind = kinds.LinkFace }) (record { place = place; item = link; at_place = at; offends = bad; told = refl })

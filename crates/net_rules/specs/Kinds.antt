@@ -7,8 +7,8 @@ use Rattle.net_rules.specs.declared.kinds.FaceKind.TheVariants.{GigabitEthernet,
 use Rattle.net_rules.specs.declared.kinds.FaceKind.TheVariants.{Serial, Loopback}
 
 -- the kind that an interface's name begins with
-abbrev pub kind_of : List ℕ → FaceKind
-kind_of name =
+abbrev pub face_kind : List ℕ → FaceKind
+face_kind name =
     if starts_with nat_eq name (codes "Ethernet") then Ethernet
     else (if starts_with nat_eq name (codes "FastEthernet") then FastEthernet
     else (if starts_with nat_eq name (codes "GigabitEthernet") then GigabitEthernet

@@ -14,7 +14,7 @@ use Rattle.ios_words.specs.declared.commands.Command.{Command}
 use Rattle.ios_words.specs.declared.commands.Command.TheVariants as commands
 use Rattle.ios_config.specs.declared.settings.Given.{Given}
 use Rattle.ios_config.specs.declared.settings.Config.{Config}
-use Rattle.net_rules.specs.Kinds.{kind_of, is_loopback}
+use Rattle.net_rules.specs.Kinds.{face_kind, is_loopback}
 use Rattle.net_rules.specs.Settings.{lines_of, is_point_to_point}
 use Rattle.net_rules.specs.Sites.{FullName, sites, full_names, a_end, b_end, ends_of}
 use Rattle.net_rules.specs.Routers.{Repeats}
@@ -25,8 +25,8 @@ use Rattle.net_rules.specs.Reasons.{InFiles, InDocument}
 pub record JoinsNamed (names : List FullName) (link : LinkText) : Type 0 where
   pub a : Contains names (a_end link)
   pub b : Contains names (b_end link)
-  pub a_kind : is_loopback (kind_of link.a_face) ≡ false
-  pub b_kind : is_loopback (kind_of link.b_face) ≡ false
+  pub a_kind : is_loopback (face_kind link.a_face) ≡ false
+  pub b_kind : is_loopback (face_kind link.b_face) ≡ false
   pub routers : link.a_router ≢ link.b_router
 
 -- the link joins two such interfaces, and none of the links before it uses one of them

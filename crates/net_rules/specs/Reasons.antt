@@ -12,19 +12,19 @@ abbrev pub IsBefore : Refusal → Refusal → Type 0
 IsBefore r s = (r.file < s.file) ⊎ ((r.file ≡ s.file) × (r.number < s.number))
 
 -- for this reason nothing is refused
-abbrev pub IsClear : (Refusal → Type 0) → Type 0
-IsClear Reason = (r : Refusal) → ¬ Reason r
+abbrev pub NoRefusal : (Refusal → Type 0) → Type 0
+NoRefusal Reason = (r : Refusal) → ¬ Reason r
 
 -- the refusal is the first that the reason makes
-pub record IsFirst (Reason : Refusal → Type 0) (r : Refusal) : Type 0 where
+pub record IsEarliest (Reason : Refusal → Type 0) (r : Refusal) : Type 0 where
   pub made : Reason r
   pub first : (other : Refusal) → Reason other → ¬ IsBefore other r
 
 -- the answer of a try: nothing is refused for the reason and the value is right, or it is the first
 -- refusal, or out of memory
 abbrev pub Tried : {X : Type 0} → (Refusal → Type 0) → (X → Type 0) → Result X NetFault → Type 0
-Tried Reason IsRight (Ok value) = IsClear Reason × IsRight value
-Tried Reason IsRight (Err (Refused r)) = IsFirst Reason r
+Tried Reason IsRight (Ok value) = NoRefusal Reason × IsRight value
+Tried Reason IsRight (Err (Refused r)) = IsEarliest Reason r
 Tried Reason IsRight (Err Memory) = Unit {0}
 
 -- the answer of a try that gives no value

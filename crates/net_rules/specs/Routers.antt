@@ -116,14 +116,14 @@ RefusesTwoAreas configs =
     InFiles kinds.TwoAreas (λ place config line. NamesOtherArea configs config line) configs
 
 -- the file gives this number, where it may give one at a line
-abbrev pub Gives : (Config → Option (Given ℕ)) → ℕ → Config → Type 0
-Gives number_of n config = IsSomeAnd (number_of config) (λ given. given.value ≡ n)
+abbrev pub GivesNumber : (Config → Option (Given ℕ)) → ℕ → Config → Type 0
+GivesNumber number_of n config = IsSomeAnd (number_of config) (λ given. given.value ≡ n)
 
 -- one of the files before gives the same number as this one, which gives it at this line
 abbrev pub Repeats : (Config → Option (Given ℕ)) → List Config → ℕ → Config → ℕ → Type 0
 Repeats number_of configs place config line =
     IsSomeAnd (number_of config) (λ given.
-    (line ≡ given.line) × Any (Gives number_of given.value) (take place configs))
+    (line ≡ given.line) × Any (GivesNumber number_of given.value) (take place configs))
 
 -- the AS of a BGP process, with the line at which its block begins
 abbrev pub as_of_process : ProcessKind → ProcessText → Option (Given ℕ)

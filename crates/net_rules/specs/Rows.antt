@@ -19,9 +19,9 @@ use Rattle.ios_words.specs.declared.commands.Command.TheVariants as commands
 use Rattle.ios_config.specs.declared.settings.Given.{Given}
 use Rattle.ios_config.specs.declared.settings.Config.{Config}
 use Rattle.ios_config.specs.declared.settings.FaceText.{FaceText}
-use Rattle.net_rules.specs.Kinds.{kind_of, is_loopback}
+use Rattle.net_rules.specs.Kinds.{face_kind, is_loopback}
 use Rattle.net_rules.specs.Settings.{value, process_of, lines_of, address_of, IsPrefixAt, is_up}
-use Rattle.net_rules.specs.Settings.{cost_of, is_passive, IsEnabled}
+use Rattle.net_rules.specs.Settings.{face_cost, is_passive, IsEnabled}
 use Rattle.net_rules.specs.Sites.{Site, FullName, sites, host_name, full_name, full_names, a_end}
 use Rattle.net_rules.specs.Sites.{b_end, ends_of}
 use Rattle.net_rules.specs.Routers.{protocol_of}
@@ -49,7 +49,7 @@ IsSubnet (Some address) subnet = IsSomeAnd subnet (IsPrefixAt address.0 address.
 -- OSPF advertises a loopback's own address alone, unless the interface is said to be point-to-point
 abbrev pub is_host_route : Protocol → FaceText → Bool
 is_host_route Ospf face =
-    if is_loopback (kind_of face.name) then not (unwrap_or (value face.point) false) else false
+    if is_loopback (face_kind face.name) then not (unwrap_or (value face.point) false) else false
 is_host_route Bgp face = false
 
 -- how many bits the host network of the interface has, if its mask has `mask_len`
@@ -62,14 +62,14 @@ host_address_of protocol face =
     option_map (λ a. (a.0, host_len protocol face a.1)) (address_of face)
 
 -- the interface is one of these ends of links
-abbrev pub IsEnd : List FullName → Site → Type 0
-IsEnd ends site = Contains ends (full_name site)
+abbrev pub IsEndOfLink : List FullName → Site → Type 0
+IsEndOfLink ends site = Contains ends (full_name site)
 
 -- the host network of an interface, which a link's end does not have
 pub record IsHost (protocol : Protocol) (ends : List FullName) (site : Site)
     (host : Option Prefix) : Type 0 where
-  pub at_end : IsEnd ends site → host ≡ None
-  pub elsewhere : ¬ IsEnd ends site → IsSubnet (host_address_of protocol site.face) host
+  pub at_end : IsEndOfLink ends site → host ≡ None
+  pub elsewhere : ¬ IsEndOfLink ends site → IsSubnet (host_address_of protocol site.face) host
 
 -- the router advertises the host network to its neighbours: under OSPF if the interface takes part,
 -- under eBGP if a network statement names it exactly
@@ -90,7 +90,7 @@ pub record IsFaceRow (protocol : Protocol) (ends : List FullName) (lists : List 
   pub enabled : IsTrue row.enabled ↔ IsEnabled (lines_of site.config) site.face
   pub told : IsTrue row.told ↔ TellsHost protocol (lines_of site.config) row.host row.enabled
   pub passive : row.passive ≡ is_passive protocol (lines_of site.config) site.face.name
-  pub cost : row.cost ≡ cost_of (lines_of site.config) site.face
+  pub cost : row.cost ≡ face_cost (lines_of site.config) site.face
   pub bound_in : row.bound_in ≡ is_some site.face.list_in
   pub list_in : IsPlaceAmong lists site.router (value site.face.list_in) row.list_in
   pub list_out : IsPlaceAmong lists site.router (value site.face.list_out) row.list_out

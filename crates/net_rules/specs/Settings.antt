@@ -15,7 +15,7 @@ use Rattle.ios_config.specs.declared.settings.Config.{Config}
 use Rattle.ios_config.specs.declared.settings.FaceText.{FaceText}
 use Rattle.ios_config.specs.declared.settings.ProcessText.{ProcessText}
 use Rattle.net_rules.specs.declared.processes.TheConstants.{DEFAULT_REFERENCE}
-use Rattle.net_rules.specs.Kinds.{kind_of, default_bandwidth, is_serial}
+use Rattle.net_rules.specs.Kinds.{face_kind, default_bandwidth, is_serial}
 
 -- the value that some line gave, if one did
 abbrev pub value : {X : Type 0} → Option (Given X) → Option X
@@ -48,7 +48,7 @@ is_up face = not (unwrap_or (value face.shut) false)
 
 -- the bandwidth in kbit/s: what is set, or else what its kind has
 abbrev pub bandwidth_of : FaceText → ℕ
-bandwidth_of face = unwrap_or (value face.bandwidth) (default_bandwidth (kind_of face.name))
+bandwidth_of face = unwrap_or (value face.bandwidth) (default_bandwidth (face_kind face.name))
 
 -- the reference bandwidth that the command sets, in Mbit/s
 abbrev pub says_reference : Command → Option ℕ
@@ -64,8 +64,9 @@ abbrev pub cost_at : ℕ → ℕ → ℕ
 cost_at reference bandwidth = max 1 (min 65535 (reference / bandwidth))
 
 -- the OSPF cost of the interface: what is set, or else that of its bandwidth
-abbrev pub cost_of : List (Given Command) → FaceText → ℕ
-cost_of lines face = unwrap_or (value face.cost) (cost_at (reference_of lines) (bandwidth_of face))
+abbrev pub face_cost : List (Given Command) → FaceText → ℕ
+face_cost lines face =
+    unwrap_or (value face.cost) (cost_at (reference_of lines) (bandwidth_of face))
 
 -- whether the command makes the interface of this name passive or not, if it names it or is about
 -- all
@@ -94,4 +95,4 @@ IsEnabled lines face = IsSome face.area ⊎
 -- the OSPF network type is point-to-point: as is set, or else for a serial interface; otherwise it
 -- is broadcast
 abbrev pub is_point_to_point : FaceText → Bool
-is_point_to_point face = unwrap_or (value face.point) (is_serial (kind_of face.name))
+is_point_to_point face = unwrap_or (value face.point) (is_serial (face_kind face.name))

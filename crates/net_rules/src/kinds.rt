@@ -13,11 +13,11 @@ pub enum FaceKind {
 }
 
 impl FaceKind {
-    ghost use Rattle.net_rules.specs.Kinds.{kind_of, default_bandwidth, is_serial, is_loopback};
+    ghost use Rattle.net_rules.specs.Kinds.{face_kind, default_bandwidth, is_serial, is_loopback};
 
     /// The kind of the interface with this name.
     pub fn of(name: &[u8]) -> FaceKind
-        ensures { result ≡ kind_of name.now }
+        ensures { result ≡ face_kind name.now }
     {
         if name.starts_with(b"Ethernet") {
             return FaceKind::Ethernet;

@@ -15,7 +15,7 @@ use Rattle.net_model.specs.declared.policies.Class.{Class}
 use Rattle.net_model.specs.Lists.{matches, permits, route_matches, route_permits}
 use Rattle.net_model.specs.declared.services.Service.{Service}
 use Rattle.net_model.specs.Services.{serves, Serves, whole_service}
-use Rattle.net_model.specs.Packets.{IsOf}
+use Rattle.net_model.specs.Packets.{IsOfClass}
 use Rattle.net_model.proofs.ServiceRanges.{bounds, serve}
 use Rattle.traffic_classes.proofs.Ranges.{holds_range}
 use Rattle.edit_list.specs.After.{any, every_packet, class_entry, exact_entry, new_packet_entries, new_route_entries}
@@ -45,18 +45,18 @@ one_of_all : (s : Service) (n : ℕ) → Serves s n → Serves whole_service n
 one_of_all s n h = let top : s.high < 2 ^ 24 = s.in_range in serve whole_service n (omega arith) (omega (arith, top, (bounds s n h).1))
 
 module _ (p : Packet) where
-  match_of : (class : Class) → IsOf class p → matches p (class_entry false class) ≡ true
+  match_of : (class : Class) → IsOfClass class p → matches p (class_entry false class) ≡ true
   match_of class of_p =
       and_from (holds class.from p.from && holds class.to p.to) (serves class.service p.service)
       (and_from (holds class.from p.from) (holds class.to p.to) of_p.0 of_p.1) of_p.2
 
-  of_match : (class : Class) → matches p (class_entry false class) ≡ true → IsOf class p
+  of_match : (class : Class) → matches p (class_entry false class) ≡ true → IsOfClass class p
   of_match class hit =
       let all = and_parts (holds class.from p.from && holds class.to p.to) (serves class.service p.service) hit in
       let both = and_parts (holds class.from p.from) (holds class.to p.to) all.0 in
       (both.0, both.1, all.1)
 
-  last_permits : (class : Class) → IsOf class p → permits (every_packet ∷ []) p ≡ true
+  last_permits : (class : Class) → IsOfClass class p → permits (every_packet ∷ []) p ≡ true
   last_permits class of_p =
       packet_step every_packet (matches p every_packet) true None
       (and_from (holds any p.from && holds any p.to) (serves whole_service p.service)
@@ -64,7 +64,7 @@ module _ (p : Packet) where
       (one_of_all class.service p.service of_p.2))
 
   -- a packet of none of the classes is permitted, if it has addresses and a service at all
-  pub new_permits : (whole : Class) → IsOf whole p → (classes : List Class) → ((class : Class) → Contains classes class → ¬ IsOf class p) → permits (new_packet_entries classes) p ≡ true
+  pub new_permits : (whole : Class) → IsOfClass whole p → (classes : List Class) → ((class : Class) → Contains classes class → ¬ IsOfClass class p) → permits (new_packet_entries classes) p ≡ true
   new_permits whole of_p [] none = last_permits whole of_p
   new_permits whole of_p (c ∷ cs) none = elim (cases_Bool (matches p (class_entry false c))) [
     | inl hit ↦ absurd (none c (Contains-head c cs) (of_match c hit))
@@ -74,14 +74,14 @@ module _ (p : Packet) where
   ]
 
   -- a packet of one of them is denied
-  pub new_denies : (classes : List Class) (class : Class) → Contains classes class → IsOf class p → permits (new_packet_entries classes) p ≡ false
+  pub new_denies : (classes : List Class) (class : Class) → Contains classes class → IsOfClass class p → permits (new_packet_entries classes) p ≡ false
   new_denies [] class there of_p = absurd (Contains-none class there)
   new_denies (c ∷ cs) class there of_p = elim (cases_Bool (matches p (class_entry false c))) [
     | inl hit ↦ packet_step (class_entry false c) (matches p (class_entry false c)) true (find (matches p) (new_packet_entries cs)) hit
     | inr miss ↦
         packet_step (class_entry false c) (matches p (class_entry false c)) false (find (matches p) (new_packet_entries cs)) miss ∙
         elim (Contains-cases c class cs there) [
-          | inl same ↦ absurd (false≢true (sym miss ∙ match_of c (subst (λ (d : Class). IsOf d p) (sym same) of_p)))
+          | inl same ↦ absurd (false≢true (sym miss ∙ match_of c (subst (λ (d : Class). IsOfClass d p) (sym same) of_p)))
           | inr later ↦ new_denies cs class later of_p
         ]
   ]

@@ -15,7 +15,7 @@ use Rattle.net_model.specs.declared.lists.RouteEntry.{RouteEntry}
 use Rattle.net_model.specs.declared.policies.Class.{Class}
 use Rattle.net_model.specs.Lists.{matches, permits, route_matches, route_permits}
 use Rattle.net_model.specs.Services.{serves}
-use Rattle.net_model.specs.Packets.{IsOf, first_packet}
+use Rattle.net_model.specs.Packets.{IsOfClass, first_packet}
 use Rattle.net_model.specs.Witnesses.{IsUniform}
 use Rattle.net_model.proofs.Packets.{first_is_of}
 use Rattle.traffic_classes.proofs.Ranges.{same_length}
@@ -42,25 +42,25 @@ route_miss : (e : RouteEntry) (b : Bool) (o : Option RouteEntry) → b ≡ false
 route_miss e b o is = ap (λ c. route_answer (cond c (Some e) o)) is
 
 module _ (base : List PacketEntry) (p : Packet) where
-  of_class : (class : Class) → matches p (opposite_packet_entry base class) ≡ true → IsOf class p
+  of_class : (class : Class) → matches p (opposite_packet_entry base class) ≡ true → IsOfClass class p
   of_class class hit =
       let all = and_parts (holds class.from p.from && holds class.to p.to) (serves class.service p.service) hit in
       let both = and_parts (holds class.from p.from) (holds class.to p.to) all.0 in
       (both.0, both.1, all.1)
 
-  class_of : (class : Class) → IsOf class p → matches p (opposite_packet_entry base class) ≡ true
+  class_of : (class : Class) → IsOfClass class p → matches p (opposite_packet_entry base class) ≡ true
   class_of class of_p =
       and_from (holds class.from p.from && holds class.to p.to) (serves class.service p.service)
       (and_from (holds class.from p.from) (holds class.to p.to) of_p.0 of_p.1) of_p.2
 
-  others_stay : (classes : List Class) → ((class : Class) → Contains classes class → ¬ IsOf class p) → permits (map (opposite_packet_entry base) classes ++ base) p ≡ permits base p
+  others_stay : (classes : List Class) → ((class : Class) → Contains classes class → ¬ IsOfClass class p) → permits (map (opposite_packet_entry base) classes ++ base) p ≡ permits base p
   others_stay [] none = refl
   others_stay (c ∷ cs) none =
       packet_miss (opposite_packet_entry base c) (matches p (opposite_packet_entry base c)) (find (matches p) (map (opposite_packet_entry base) cs ++ base))
       (false_from_ne_true (matches p (opposite_packet_entry base c)) (λ hit. none c (Contains-head c cs) (of_class c hit))) ∙
       others_stay cs (λ d there. none d (Contains-tail c d cs there))
 
-  classes_turn : (classes : List Class) → All (IsUniform base) classes → (class : Class) → Contains classes class → IsOf class p →
+  classes_turn : (classes : List Class) → All (IsUniform base) classes → (class : Class) → Contains classes class → IsOfClass class p →
       permits (map (opposite_packet_entry base) classes ++ base) p ≡ not (permits base p)
   classes_turn [] uniform class there of_p = absurd (Contains-none class there)
   classes_turn (c ∷ cs) uniform class there of_p = by (λ after. classes_turn cs rest class after of_p) (matches p (opposite_packet_entry base c)) refl
@@ -73,7 +73,7 @@ module _ (base : List PacketEntry) (p : Packet) where
 
       later : matches p (opposite_packet_entry base c) ≡ false → Contains cs class
       later miss = elim (Contains-cases c class cs there) [
-        | inl same ↦ absurd (false≢true (sym miss ∙ class_of c (subst (λ (d : Class). IsOf d p) (sym same) of_p)))
+        | inl same ↦ absurd (false≢true (sym miss ∙ class_of c (subst (λ (d : Class). IsOfClass d p) (sym same) of_p)))
         | inr after ↦ after
       ]
 

@@ -10,7 +10,7 @@ use Rattle.net_model.specs.declared.rows.FaceRow.{FaceRow}
 use Rattle.net_model.specs.declared.rows.SessionRow.{SessionRow}
 use Rattle.net_model.specs.declared.rows.Network.{Network}
 use Rattle.net_model.specs.Forwarding.{ListPermits}
-use Rattle.net_model.specs.Packets.{IsOf}
+use Rattle.net_model.specs.Packets.{IsOfClass}
 use Rattle.net_model.specs.Routing.{RouteListPermits}
 use Rattle.net_model.specs.Validity.{IsValid}
 use Rattle.edit_list.specs.declared.edit_kinds.Edit.{Edit}
@@ -22,7 +22,7 @@ use Rattle.edit_list.specs.Prices.{chosen_of}
 -- some of the edits add an entry to the packet list for a class of the packet
 abbrev pub NamesPacket : List Edit → ListId → Packet → Type 0
 NamesPacket chosen list p =
-    (class : Class) × Contains chosen (edits.PacketList list class) × IsOf class p
+    (class : Class) × Contains chosen (edits.PacketList list class) × IsOfClass class p
 
 -- where this packet list was bound, the list that is bound after the edits answers the opposite for
 -- the packets that they name, and as before for all others

@@ -11,7 +11,7 @@ use Rattle.net_model.specs.declared.policies.Document.{Document}
 use Rattle.net_model.specs.declared.policies.Weights.{Weights}
 use Rattle.net_model.specs.declared.rows.Network.{Network}
 use Rattle.net_model.specs.Lists.{permits, route_permits}
-use Rattle.net_model.specs.Packets.{IsOf}
+use Rattle.net_model.specs.Packets.{IsOfClass}
 use Rattle.net_model.specs.Validity.{IsValid}
 use Rattle.net_model.specs.Witnesses.{IsUniform}
 use Rattle.edit_list.specs.declared.edit_kinds.Edit.{Edit}
@@ -30,13 +30,14 @@ abbrev pub ClassesTurn : Type 0
 ClassesTurn =
     (entries : List PacketEntry) (classes : List Class) → All (IsUniform entries) classes →
     (class : Class) → Contains classes class →
-    (p : Packet) → IsOf class p → permits (with_classes entries classes) p ≡ not (permits entries p)
+    (p : Packet) → IsOfClass class p →
+    permits (with_classes entries classes) p ≡ not (permits entries p)
 
 -- and as before to every other packet
 abbrev pub OthersStay : Type 0
 OthersStay =
     (entries : List PacketEntry) (classes : List Class) →
-    (p : Packet) → ((class : Class) → Contains classes class → ¬ IsOf class p) →
+    (p : Packet) → ((class : Class) → Contains classes class → ¬ IsOfClass class p) →
     permits (with_classes entries classes) p ≡ permits entries p
 
 -- a route list with entries for prefixes at its front answers the opposite to each of them

@@ -7,7 +7,7 @@ use Rattle.arc_base.specs.declared.prefix.Prefix.{Prefix}
 use Rattle.net_model.specs.declared.lists.Packet.{Packet}
 use Rattle.net_model.specs.declared.policies.Class.{Class}
 use Rattle.net_model.specs.Lists.{permits, route_permits}
-use Rattle.net_model.specs.Packets.{IsOf}
+use Rattle.net_model.specs.Packets.{IsOfClass}
 use Rattle.edit_list.specs.declared.edit_kinds.Edit.{Edit}
 use Rattle.edit_list.specs.declared.edit_kinds.Edit.TheVariants as edits
 use Rattle.edit_list.specs.After.{new_packet_entries, new_route_entries}
@@ -18,13 +18,13 @@ use Rattle.edit_list.specs.Changes.{new_classes}
 abbrev pub NewClassesAreDenied : Type 0
 NewClassesAreDenied =
     (classes : List Class) (class : Class) → Contains classes class →
-    (p : Packet) → IsOf class p → permits (new_packet_entries classes) p ≡ false
+    (p : Packet) → IsOfClass class p → permits (new_packet_entries classes) p ≡ false
 
 -- and permits every other packet that there is
 abbrev pub OtherPacketsArePermitted : Type 0
 OtherPacketsArePermitted =
-    (classes : List Class) (whole : Class) (p : Packet) → IsOf whole p →
-    ((class : Class) → Contains classes class → ¬ IsOf class p) →
+    (classes : List Class) (whole : Class) (p : Packet) → IsOfClass whole p →
+    ((class : Class) → Contains classes class → ¬ IsOfClass class p) →
     permits (new_packet_entries classes) p ≡ true
 
 -- a new route list denies its prefixes

@@ -23,7 +23,7 @@ use Rattle.edit_list.specs.declared.edit_kinds.Edit.{Edit}
 use Rattle.edit_list.specs.declared.list_kinds.NewList.{NewList}
 use Rattle.edit_list.specs.Changes.{new_classes, new_route_change}
 use Rattle.edit_list.specs.Determined.{IsCountable}
-use Rattle.edit_list.specs.NewLists.{free_names, is_among, names_of, new_lists, new_lists_of, new_name, new_names_of, new_packet_list, new_route_list, named_lists}
+use Rattle.edit_list.specs.NewLists.{free_names, is_name_among, names_of, new_lists, new_lists_of, new_name, new_names_of, new_packet_list, new_route_list, named_lists}
 use Rattle.arc_base.specs.Numbered.{if_number, placed}
 use Rattle.edit_list.specs.Writable.{is_writable}
 use Rattle.edit_list.proofs.Counts.{few_picked, few_placed}
@@ -52,8 +52,8 @@ in-take n xs x h = subst (λ (l : List (List ℕ)). Contains l x) (take-append-d
 -- no free name is this word
 free-other : (names : List (List ℕ)) (count : ℕ) (name : List ℕ) → Contains (free_names names count) name → name ≢ codes "sequence-number"
 free-other names count name there same =
-    let picked = from_filter (λ (n : List ℕ). not (is_among names n)) (map new_name (range_with_len 1 (length names + count))) name
-    (in-take count (filter (λ (n : List ℕ). not (is_among names n)) (map new_name (range_with_len 1 (length names + count)))) name there) in
+    let picked = from_filter (λ (n : List ℕ). not (is_name_among names n)) (map new_name (range_with_len 1 (length names + count))) name
+    (in-take count (filter (λ (n : List ℕ). not (is_name_among names n)) (map new_name (range_with_len 1 (length names + count)))) name there) in
     let (n, among, is) = from_map new_name (range_with_len 1 (length names + count)) name picked.0 in
     let first : 65 ≡ 115 = ap (λ (l : List ℕ). get_or l 0 0) (is ∙ same) in
     absurd (omega (arith, first))

@@ -18,7 +18,7 @@ use Rattle.ios_config.specs.Rising.{NumbersRise}
 use Rattle.ios_config.specs.Texts.{config_of}
 use Rattle.ios_config.proofs.LineLists.{commands-of-lines}
 use Rattle.net_build.specs.declared.built.Built.{Built}
-use Rattle.net_build.specs.Networks.{Says, IsBuilt}
+use Rattle.net_build.specs.Networks.{HasSettings, IsBuilt}
 use Rattle.net_rules.specs.Rows.{IsRouterRow}
 use Rattle.edit_list.specs.declared.edit_kinds.Edit.{Edit}
 use Rattle.edit_list.specs.Changes.{list_classes}
@@ -57,7 +57,7 @@ module _ (have_lines : CommandsHaveListLines) (doc : Document) (files : List (Li
   route-valid id p at_p = All-contains (IsValidRouteList net) net.route_lists p valid.route_lists (item_at_place net.route_lists id p at_p)
 
   -- each file is one that the edits can be put into
-  file-of : (router : ℕ) (config : Config) (text : List ℕ) (says : Says text config) (lines : Lines) → slice_get was.network.configs router ≡ Some config → AreLinesOf text lines →
+  file-of : (router : ℕ) (config : Config) (text : List ℕ) (says : HasSettings text config) (lines : Lines) → slice_get was.network.configs router ≡ Some config → AreLinesOf text lines →
       IsEditedFile net built.places chosen router text lines says.is_config.commands
   file-of router config text says lines at_c are_lines =
       let cs : List FileCommand = says.is_config.commands in

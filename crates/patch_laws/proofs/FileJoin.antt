@@ -16,7 +16,7 @@ use Rattle.ios_config.specs.Inserted.{AreMarksRead}
 use Rattle.ios_config.specs.LineLists.{marks_in, AreCommandsIn}
 use Rattle.ios_config.specs.Texts.{config_of}
 use Rattle.ios_config.proofs.LineLists.{commands-of-lines}
-use Rattle.net_build.specs.Networks.{Says}
+use Rattle.net_build.specs.Networks.{HasSettings}
 use Rattle.edit_list.specs.declared.edit_kinds.Edit.{Edit}
 use Rattle.edit_space.proofs.SomeNames.{after_is_valid}
 use Rattle.settings_edit_laws.specs.SettingsAfter.{AreSettingsAfter}
@@ -70,7 +70,7 @@ module _ (net : Network) (chosen : List Edit) where
   record AllAfter (start : ℕ) (cs : List Config) (news : List (List ℕ)) : Type 0 where
     ds : List Config
     whole : length ds ≡ length cs
-    said : AllZip Says news ds
+    said : AllZip HasSettings news ds
     each : (k : ℕ) (c d : Config) → slice_get cs k ≡ Some c → slice_get ds k ≡ Some d → AreSettingsAfter net chosen (start + k) c d
 
   collect : (start : ℕ) (cs : List Config) (news : List (List ℕ)) → length news ≡ length cs →
@@ -108,9 +108,9 @@ files-have-network doc files new net was chosen after valid countable fits room 
 
 pub sited-files-have : SitedFilesHaveTheNetwork
 sited-files-have doc files new built was chosen after valid countable fits room sited patched is =
-    files-have-network doc files new built.net was.network chosen after valid countable fits room (patched.whole ∙ sym (zip_length Says files was.network.configs was.network.said))
+    files-have-network doc files new built.net was.network chosen after valid countable fits room (patched.whole ∙ sym (zip_length HasSettings files was.network.configs was.network.said))
     (λ router config text at_c at_new.
-    let (old, at_old, says) = AllZip-left Says files was.network.configs was.network.said router config at_c in
+    let (old, at_old, says) = AllZip-left HasSettings files was.network.configs was.network.said router config at_c in
     let facts = file-facts doc files new built was chosen patched router config old text at_c at_old at_new in
     sited-files-after built.net chosen router old text config says facts.lines _ _ _ facts.are facts.is (sited router config old says facts.lines at_c at_old facts.are))
     is

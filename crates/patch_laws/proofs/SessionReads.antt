@@ -5,7 +5,7 @@ use Rattle.std.specs.List.{AllZip}
 use Rattle.std.proofs.lemmas.Option.{none-some, same_Some}
 use Rattle.arc_base.proofs.Items.{Contains-head, Contains-tail}
 use Rattle.ios_lines.specs.Kinds.{IsInner}
-use Rattle.ios_words.specs.Plain.{plain_line, IsReadAs}
+use Rattle.ios_words.specs.Plain.{plain_line, IsReadBack}
 use Rattle.ios_words.specs.declared.commands.Command.{Command}
 use Rattle.ios_words.specs.declared.kinds.BlockKind.{BlockKind}
 use Rattle.patch_laws.proofs.PlainWritten.{plain-reads}
@@ -36,7 +36,7 @@ session_in {X} p (y ∷ xs) x e = by (p y) e (session_in p xs x)
     by false e later = Contains-tail y x xs (later e)
 
 -- a written line of a process is one of its block
-pub inner_is : (within : BlockKind) (block : ℕ) (command : Command) → IsReadAs within command → IsInner (plain_line within command) → part_in block command ≡ Block block → IsQuiet command →
+pub inner_is : (within : BlockKind) (block : ℕ) (command : Command) → IsReadBack within command → IsInner (plain_line within command) → part_in block command ≡ Block block → IsQuiet command →
     IsLineOf (plain_line within command) within block command × IsQuiet command
 inner_is within block command l inner part quiet = (
   record { inner = inner; reads = plain-reads within command l; part = part },

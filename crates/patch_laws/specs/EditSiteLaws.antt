@@ -18,7 +18,7 @@ use Rattle.ios_config.specs.Texts.{config_of}
 use Rattle.ios_config.specs.Twice.{StandOnce}
 use Rattle.net_build.specs.declared.built.Built.{Built}
 use Rattle.net_build.specs.declared.built.Places.{Places}
-use Rattle.net_build.specs.Networks.{Says, IsBuilt, IsNetworkOf}
+use Rattle.net_build.specs.Networks.{HasSettings, IsBuilt, IsNetworkOf}
 use Rattle.net_build.specs.Places.{places_of}
 use Rattle.edit_list.specs.declared.edit_kinds.Edit.{Edit}
 use Rattle.edit_list.specs.After.{IsAfter}
@@ -114,7 +114,8 @@ EditedFilesAreFiles =
     (list : List Edit) (flags : List Bool) → IsValid built.net → IsCountable built.net →
     All (λ policy. HasEnds built.net (subject policy)) doc.policies → AreEdits built.net doc list →
     HasRoom (chosen_of list flags) was.network.configs →
-    (router : ℕ) (config : Config) (text : List ℕ) (says : Says text config) (lines : Lines) →
+    (router : ℕ) (config : Config) (text : List ℕ) (says : HasSettings text config)
+    (lines : Lines) →
     slice_get was.network.configs router ≡ Some config →
     slice_get files router ≡ Some text → AreLinesOf text lines →
     IsEditedFile built.net built.places (chosen_of list flags) router text lines

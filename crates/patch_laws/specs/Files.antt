@@ -13,7 +13,7 @@ use Rattle.ios_config.specs.Rising.{NumbersRise}
 use Rattle.ios_config.specs.Texts.{config_of}
 use Rattle.ios_config.specs.Twice.{StandOnce}
 use Rattle.net_build.specs.declared.built.Built.{Built}
-use Rattle.net_build.specs.Networks.{Says, IsBuilt, IsNetworkOf}
+use Rattle.net_build.specs.Networks.{HasSettings, IsBuilt, IsNetworkOf}
 use Rattle.net_build.specs.Places.{places_of}
 use Rattle.edit_list.specs.declared.edit_kinds.Edit.{Edit}
 use Rattle.edit_list.specs.After.{IsAfter}
@@ -55,14 +55,14 @@ pub record IsSited (net : Network) (chosen : List Edit) (router : ℕ) (text : L
 pub record IsFileAfter (net : Network) (chosen : List Edit) (router : ℕ) (config : Config)
     (new : List ℕ) : Type 0 where
   pub now : Config
-  pub says : Says new now
+  pub says : HasSettings new now
   pub after : AreSettingsAfter net chosen router config now
 
 -- a patched file whose lines are good sites has the settings after the edits
 abbrev pub SitedFilesAreAfter : Type 0
 SitedFilesAreAfter =
     (net : Network) (chosen : List Edit) (router : ℕ) (text new : List ℕ) (config : Config)
-    (says : Says text config) (lines : Lines) (before : List (ℕ × List ℕ))
+    (says : HasSettings text config) (lines : Lines) (before : List (ℕ × List ℕ))
     (numbers : List (ℕ × NewNumber)) (after : List (ℕ × List ℕ)) →
     AreLinesOf text lines → new ≡ patched_text text lines before numbers after →
     IsSited net chosen router text lines says.is_config.commands before numbers after →
@@ -81,7 +81,8 @@ FilesHaveTheNetwork =
 -- what the edits add to each file are good sites of its commands
 abbrev pub AreSited : (built : Built) → List Edit → List (List ℕ) → List Config → Type 0
 AreSited built chosen files configs =
-    (router : ℕ) (config : Config) (text : List ℕ) (says : Says text config) (lines : Lines) →
+    (router : ℕ) (config : Config) (text : List ℕ) (says : HasSettings text config)
+    (lines : Lines) →
     slice_get configs router ≡ Some config →
     slice_get files router ≡ Some text → AreLinesOf text lines →
     IsSited built.net chosen router text lines says.is_config.commands

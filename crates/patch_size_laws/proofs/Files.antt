@@ -14,7 +14,7 @@ use Rattle.ios_config.specs.Texts.{config_of}
 use Rattle.net_build.specs.declared.built.Built.{Built}
 use Rattle.net_build.specs.declared.built.ListPlace.{ListPlace}
 use Rattle.net_build.specs.declared.built.Places.{Places}
-use Rattle.net_build.specs.Networks.{IsBuilt, Says}
+use Rattle.net_build.specs.Networks.{IsBuilt, HasSettings}
 use Rattle.net_build.specs.Places.{list_place, places_of}
 use Rattle.net_model.specs.declared.rows.Network.{Network}
 use Rattle.net_rules.specs.Rows.{IsRouterRow}
@@ -42,7 +42,7 @@ all-places P (l ∷ ls) each = (each l (Contains-head l ls), all-places P ls (λ
 
 -- one file
 module _ (net : Network) (places : List Places) (chosen : List Edit) (few : length chosen ≤ 8192) where
-  pub file-few : (built : Built) (router : ℕ) (text new : List ℕ) (lines : Lines) (config : Config) (says : Says text config) → built.net ≡ net → built.places ≡ places → AreLinesOf text lines →
+  pub file-few : (built : Built) (router : ℕ) (text new : List ℕ) (lines : Lines) (config : Config) (says : HasSettings text config) → built.net ≡ net → built.places ≡ places → AreLinesOf text lines →
       IsEditedFile net places chosen router text lines says.is_config.commands → new ≡ patched_file built chosen router text lines (places_of config) →
       2 * length new ≤ 7 * length text + 5 + 1024 * weight net chosen router
   file-few built router text new lines config says same_net same_places are file is =
@@ -103,7 +103,7 @@ patched_files_are_short doc built olds new list flags editable are few total_few
     let few_chosen : length chosen ≤ 8192 = chosen-few list flags few in
     let each : (place : ℕ) (x y : List ℕ) → slice_get olds place ≡ Some x → slice_get new place ≡ Some y → 2 * length y ≤ 7 * length x + 5 + 1024 * weight net chosen place =
     λ place x y at_x at_y.
-    let (config, at_c, says) = AllZip-right Says olds configs within.said place x at_x in
+    let (config, at_c, says) = AllZip-right HasSettings olds configs within.said place x at_x in
     let (lines, at_l, are_lines) = AllZip-right AreLinesOf olds built.lines editable.is_built.lines place x at_x in
     let at_p : slice_get built.places place ≡ Some (places_of config) =
     ap (λ (ps : List Places). slice_get ps place) editable.is_built.places ∙ slice_get-map places_of configs place ∙ ap (option_map places_of) at_c in
@@ -116,7 +116,7 @@ patched_files_are_short doc built olds new list flags editable are few total_few
     file-few net built.places chosen few_chosen built place x y lines config says refl refl are_lines file of_places in
     let weights = weights-few net editable.fit.valid chosen (length olds) in
     let routers : length olds ≤ 256 =
-    (let said = AllZip-length Says olds configs within.said in let rows = AllZip-length (IsRouterRow net.protocol) configs net.routers within.rows.base.routers in let most =
+    (let said = AllZip-length HasSettings olds configs within.said in let rows = AllZip-length (IsRouterRow net.protocol) configs net.routers within.rows.base.routers in let most =
     editable.fit.valid.few_routers in omega (arith, said, rows, most)) in
     record {
       each = λ k d low.

@@ -22,7 +22,7 @@ use Rattle.condition_formula.specs.declared.condition.Condition.{Condition}
 use Rattle.condition_formula.specs.declared.condition.Condition.TheVariants.{Always, Never, If, Unless}
 use Rattle.condition_formula.specs.declared.condition.ArcLists.{ArcLists}
 use Rattle.condition_formula.specs.declared.network.ConditionArc.{ConditionArc}
-use Rattle.condition_formula.specs.Conditions.{holds, lists_of, is_routed, IsClearArc}
+use Rattle.condition_formula.specs.Conditions.{comes_true, lists_of, is_routed, IsClearArc}
 use Rattle.condition_formula.specs.Laws.{chosen_in}
 use Rattle.edit_list.specs.declared.edit_kinds.Edit.{Edit}
 use Rattle.edit_list.specs.After.{IsFaceAfter}
@@ -124,12 +124,12 @@ module _ (net : Network) (list : List Edit) (to : Prefix) (classes : List Class)
       (to_if (is_able net row a b) (able_arcs net list to classes (link, row) a b) ca able kept))))
 
 -- no condition that holds is one that never does
-never_fails : (chosen : ℕ → Bool) (cs : List Condition) → list_all (holds chosen) cs ≡ true → list_any is_never cs ≡ false
+never_fails : (chosen : ℕ → Bool) (cs : List Condition) → list_all (comes_true chosen) cs ≡ true → list_any is_never cs ≡ false
 never_fails chosen [] h = refl
-never_fails chosen (Always ∷ cs) h = never_fails chosen cs (and_parts true (list_all (holds chosen) cs) h).1
-never_fails chosen (Never ∷ cs) h = absurd (false≢true (and_parts false (list_all (holds chosen) cs) h).0)
-never_fails chosen (If e ∷ cs) h = never_fails chosen cs (and_parts (chosen e) (list_all (holds chosen) cs) h).1
-never_fails chosen (Unless e ∷ cs) h = never_fails chosen cs (and_parts (not (chosen e)) (list_all (holds chosen) cs) h).1
+never_fails chosen (Always ∷ cs) h = never_fails chosen cs (and_parts true (list_all (comes_true chosen) cs) h).1
+never_fails chosen (Never ∷ cs) h = absurd (false≢true (and_parts false (list_all (comes_true chosen) cs) h).0)
+never_fails chosen (If e ∷ cs) h = never_fails chosen cs (and_parts (chosen e) (list_all (comes_true chosen) cs) h).1
+never_fails chosen (Unless e ∷ cs) h = never_fails chosen cs (and_parts (not (chosen e)) (list_all (comes_true chosen) cs) h).1
 
 three : (a b c : Bool) → (a && (b && (c && true))) ≡ true → (a ≡ true) × (b ≡ true) × (c ≡ true)
 three a b c h =
@@ -179,27 +179,27 @@ module _ (net : Network) (doc : Document) (list : List Edit) (flags : List Bool)
       ables : (is_able_end net (session_at net row.a) a b ≡ true) × (is_able_end net (session_at net row.b) b a ≡ true)
       ables = and_parts (is_able_end net (session_at net row.a) a b) (is_able_end net (session_at net row.b) b a) able
 
-      open_a : IsOpen (session_at after row.a) c ↔ IsTrue (holds (chosen_in flags) (session_condition net list row.a a))
+      open_a : IsOpen (session_at after row.a) c ↔ IsTrue (comes_true (chosen_in flags) (session_condition net list row.a a))
       open_a = open_value net doc list flags after ed row.a a c rows.is_a rows.at_a (has_session row.a a b ables.0)
 
-      open_b : IsOpen (session_at after row.b) d ↔ IsTrue (holds (chosen_in flags) (session_condition net list row.b b))
+      open_b : IsOpen (session_at after row.b) d ↔ IsTrue (comes_true (chosen_in flags) (session_condition net list row.b b))
       open_b = open_value net doc list flags after ed row.b b d rows.is_b rows.at_b (has_session row.b b a ables.1)
 
-      taken : (face : Face) → FilterPermits after (session_at after face) ends.to ↔ IsTrue (holds (chosen_in flags) (route_condition net list ends.to face (session_at net face)))
+      taken : (face : Face) → FilterPermits after (session_at after face) ends.to ↔ IsTrue (comes_true (chosen_in flags) (route_condition net list ends.to face (session_at net face)))
       taken face = route_value net doc list flags after ed ends.to face
 
       -- the arc is routed after the edits where its conditions hold
       carried : (from_a : Bool) → is_told net ends.to ≡ true → IsTrue (is_routed (chosen_in flags) (ca_of from_a)) → IsRouted after ends.to (arc_of from_a)
       carried true told routed =
-          let h = three (holds (chosen_in flags) (session_condition net list row.a a)) (holds (chosen_in flags) (session_condition net list row.b b))
-          (holds (chosen_in flags) (route_condition net list ends.to row.a (session_at net row.a))) routed in
+          let h = three (comes_true (chosen_in flags) (session_condition net list row.a a)) (comes_true (chosen_in flags) (session_condition net list row.b b))
+          (comes_true (chosen_in flags) (route_condition net list ends.to row.a (session_at net row.a))) routed in
           record {
             told = (told_value net (chosen_of list flags) after ed.is_after ends.to).0 told;
             carries = record { able_tail = able_a.0 ables.0; able_head = able_b.0 ables.1; open_tail = open_a.1 h.0; open_head = open_b.1 h.1; filter = (taken row.a).1 h.2 };
           }
       carried false told routed =
-          let h = three (holds (chosen_in flags) (session_condition net list row.a a)) (holds (chosen_in flags) (session_condition net list row.b b))
-          (holds (chosen_in flags) (route_condition net list ends.to row.b (session_at net row.b))) routed in
+          let h = three (comes_true (chosen_in flags) (session_condition net list row.a a)) (comes_true (chosen_in flags) (session_condition net list row.b b))
+          (comes_true (chosen_in flags) (route_condition net list ends.to row.b (session_at net row.b))) routed in
           record {
             told = (told_value net (chosen_of list flags) after ed.is_after ends.to).0 told;
             carries = record { able_tail = able_b.0 ables.1; able_head = able_a.0 ables.0; open_tail = open_b.1 h.1; open_head = open_a.1 h.0; filter = (taken row.b).1 h.2 };
@@ -207,11 +207,11 @@ module _ (net : Network) (doc : Document) (list : List Edit) (flags : List Bool)
 
       conditions : (from_a : Bool) → IsRouted after ends.to (arc_of from_a) → IsTrue (is_routed (chosen_in flags) (ca_of from_a))
       conditions true r =
-          all_three (holds (chosen_in flags) (session_condition net list row.a a)) (holds (chosen_in flags) (session_condition net list row.b b)) (holds
+          all_three (comes_true (chosen_in flags) (session_condition net list row.a a)) (comes_true (chosen_in flags) (session_condition net list row.b b)) (comes_true
           (chosen_in flags) (route_condition net list ends.to row.a (session_at net row.a)))
           (open_a.0 r.carries.open_tail) (open_b.0 r.carries.open_head) ((taken row.a).0 r.carries.filter)
       conditions false r =
-          all_three (holds (chosen_in flags) (session_condition net list row.a a)) (holds (chosen_in flags) (session_condition net list row.b b)) (holds
+          all_three (comes_true (chosen_in flags) (session_condition net list row.a a)) (comes_true (chosen_in flags) (session_condition net list row.b b)) (comes_true
           (chosen_in flags) (route_condition net list ends.to row.b (session_at net row.b)))
           (open_a.0 r.carries.open_head) (open_b.0 r.carries.open_tail) ((taken row.b).0 r.carries.filter)
 
@@ -228,11 +228,11 @@ module _ (net : Network) (doc : Document) (list : List Edit) (flags : List Bool)
         ap (arc_lists net list (tail_row a b from_a) (head_end row from_a) (head_row a b from_a)) (get_or_from_slice_get classes k class class at)
 
     permits_as : (from_a : Bool) (k : ℕ) (lists : ArcLists) → lists_of (ca_of from_a) k ≡ lists → {P Q : Type 0} →
-        (P ↔ IsTrue (holds (chosen_in flags) lists.outbound)) → (Q ↔ IsTrue (holds (chosen_in flags) lists.inbound)) →
+        (P ↔ IsTrue (comes_true (chosen_in flags) lists.outbound)) → (Q ↔ IsTrue (comes_true (chosen_in flags) lists.inbound)) →
         (P × Q) ↔ IsClearArc (chosen_in flags) k (ca_of from_a)
     permits_as from_a k lists e out ins =
-        let O : ArcLists → Type 0 = λ l. IsTrue (holds (chosen_in flags) l.outbound) in
-        let I : ArcLists → Type 0 = λ l. IsTrue (holds (chosen_in flags) l.inbound) in (
+        let O : ArcLists → Type 0 = λ l. IsTrue (comes_true (chosen_in flags) l.outbound) in
+        let I : ArcLists → Type 0 = λ l. IsTrue (comes_true (chosen_in flags) l.inbound) in (
           λ h. record { outbound = subst O (sym e) (out.0 h.0); inbound = subst I (sym e) (ins.0 h.1) },
           λ h. (out.1 (subst O e h.outbound), ins.1 (subst I e h.inbound)),
         )

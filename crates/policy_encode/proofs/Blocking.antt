@@ -17,7 +17,7 @@ use Rattle.net_model.specs.declared.policies.PolicyKind.{PolicyKind}
 use Rattle.net_model.specs.declared.policies.PolicyKind.TheVariants as kinds
 use Rattle.net_model.specs.declared.rows.Network.{Network}
 use Rattle.net_model.specs.declared.verdicts.LinkPath.{LinkPath}
-use Rattle.net_model.specs.Packets.{IsOf, LiesIn}
+use Rattle.net_model.specs.Packets.{IsOfClass, LiesIn}
 use Rattle.net_model.specs.Routing.{Arc, FailureSet, DistanceMap, IsArc, IsRouted, tail_router, head_router}
 use Rattle.net_model.specs.Forwarding.{Ends, ArcPermits, Walk, IsDelivered, source_router, target_router}
 use Rattle.net_model.specs.Policies.{IsBlocked, GoesThrough, CrossesWaypoint}
@@ -25,7 +25,7 @@ use Rattle.net_model.specs.Witnesses.{MayBreak, Path, links_of, routers_of, IsRi
 use Rattle.net_laws.proofs.RightWalks.{right_walks_unblock, right_walks_bypass}
 use Rattle.condition_formula.specs.declared.network.Question.{Question}
 use Rattle.condition_formula.specs.declared.network.Demand.{Demand}
-use Rattle.condition_formula.specs.Conditions.{is_open, is_counted, counted, bare, open_arcs, Comes, IsKeptOff, IsClearArc}
+use Rattle.condition_formula.specs.Conditions.{is_arc_open, is_counted, counted_arcs, bare, open_arcs, Comes, IsKeptOff, IsClearArc}
 use Rattle.condition_formula.proofs.Parts.{any_from}
 use Rattle.policy_encode.specs.Questions.{demand_of}
 use Rattle.policy_encode.specs.Mirrors.{HasMirror, IsMirrored, Mirrors}
@@ -36,15 +36,16 @@ pub record IsIn (classes : List Class) (p : Packet) : Type 0 where
   pub place : ℕ
   pub class : Class
   pub at : slice_get classes place ≡ Some class
-  pub is_of : IsOf class p
+  pub is_of : IsOfClass class p
 
 -- a path that passes no node twice, where there is a path
 stays : (arcs : List shown.Arc) (side : ℕ → Bool) → ((a : shown.Arc) → Contains arcs a → IsTrue (side a.tail) → IsTrue (side a.head)) →
-    (way : List shown.Arc) (u v : ℕ) → graphs.Path arcs u way v → IsTrue (side u) → IsTrue (side v)
+    (way : List shown.Arc) (u v : ℕ) → graphs.ArcPath arcs u way v → IsTrue (side u) → IsTrue (side v)
 stays arcs side closed [] u v path on = subst (λ n. IsTrue (side n)) path on
 stays arcs side closed (a ∷ way) u v path on = stays arcs side closed way a.head v path.2 (closed a path.0 (subst (λ n. IsTrue (side n)) (sym path.1) on))
 
-first_path : (arcs : List shown.Arc) (s t : ℕ) (paths : List (List Link)) → length paths ≡ 1 → All (λ links. graphs.IsPath arcs s links t) paths → (links : List Link) × graphs.IsPath arcs s links t
+first_path : (arcs : List shown.Arc) (s t : ℕ) (paths : List (List Link)) → length paths ≡ 1 → All (λ links. graphs.IsArcPath arcs s links t) paths → (links : List Link) ×
+    graphs.IsArcPath arcs s links t
 first_path arcs s t paths one each = (get_or paths 0 [], each 0 [] (omega (arith, one)))
 
 no_links : (links : List Link) (l : Link) → length links < 1 → Contains links l → ⊥
@@ -55,7 +56,7 @@ on_or_off true h = refl
 on_or_off false h = absurd (h refl)
 
 pub simple_path : (nodes : ℕ) (arcs : List shown.Arc) → graphs.IsGraph (record { nodes = nodes; arcs = arcs }) → (s t : ℕ) → s < nodes → t < nodes →
-    graphs.Leads arcs s t → (links : List Link) × graphs.IsPath arcs s links t
+    graphs.Leads arcs s t → (links : List Link) × graphs.IsArcPath arcs s links t
 simple_path nodes arcs graph s t in_s in_t leads = elim (cases_eq s t) [
   | inl same ↦ ([], record { way = []; of_links = refl; leads = same; once = AllPairs-single (λ (x : ℕ) (y : ℕ). x ≢ y) s })
   | inr apart ↦ elim (paths_or_cut (record { nodes = nodes; arcs = arcs }) graph s t 1 in_s in_t apart) [
@@ -72,23 +73,23 @@ simple_path nodes arcs graph s t in_s in_t leads = elim (cases_eq s t) [
 
 module _ (net : Network) (ends : Ends) (classes : List Class) (chosen : ℕ → Bool) (q : Question) (m : Mirrors net ends classes chosen q) (kind : PolicyKind) (demand : q.demand ≡ demand_of kind) where
   -- an arc over which the packet goes on stands in the question, open
-  in_open : (k : ℕ) (class : Class) → slice_get classes k ≡ Some class → (p : Packet) → IsOf class p → (arc : Arc) →
+  in_open : (k : ℕ) (class : Class) → slice_get classes k ≡ Some class → (p : Packet) → IsOfClass class p → (arc : Arc) →
       (is : IsMirrored net classes chosen q arc) → MayBreak kind arc → ArcPermits net arc p →
       Contains (open_arcs chosen q k) (bare is.ca)
   in_open k class at p of_p arc is may permits =
       let counts : is_counted q.demand is.ca ≡ true = subst (λ (d : Demand). is_counted d is.ca ≡ true) (sym demand) (breaks_counts kind is.ca arc is.is_mirror.waypoint may) in
       let clear : IsClearArc chosen k is.ca = (is.is_mirror.permits k class at p of_p).0 permits in
-      Contains-map bare (filter (is_open chosen k) (counted q)) is.ca
-      (Contains-filter (is_open chosen k) (counted q) is.ca (Contains-filter (is_counted q.demand) q.arcs is.ca is.one counts) (open_from chosen k is.ca is.routed clear))
+      Contains-map bare (filter (is_arc_open chosen k) (counted_arcs q)) is.ca
+      (Contains-filter (is_arc_open chosen k) (counted_arcs q) is.ca (Contains-filter (is_counted q.demand) q.arcs is.ca is.one counts) (open_from chosen k is.ca is.routed clear))
 
-  walk_leads : (k : ℕ) (class : Class) → slice_get classes k ≡ Some class → (failed : FailureSet) (d : DistanceMap) (p : Packet) → IsOf class p → (arcs : List Arc) (u v : ℕ) →
+  walk_leads : (k : ℕ) (class : Class) → slice_get classes k ≡ Some class → (failed : FailureSet) (d : DistanceMap) (p : Packet) → IsOfClass class p → (arcs : List Arc) (u v : ℕ) →
       Walk net ends.to failed d p u arcs v → ((arc : Arc) → Contains arcs arc → MayBreak kind arc) → graphs.Leads (open_arcs chosen q k) u v
   walk_leads k class at failed d p of_p [] u v walk may = ([], walk)
   walk_leads k class at failed d p of_p (arc ∷ arcs) u v walk may =
       let is : IsMirrored net classes chosen q arc = m.from_arc arc walk.1.usable.is_arc walk.1.usable.routed in
       let one : Contains (open_arcs chosen q k) (bare is.ca) = in_open k class at p of_p arc is (may arc (Contains-head arc arcs)) walk.2 in
       let rest = walk_leads k class at failed d p of_p arcs (head_router arc) v walk.3 (λ b in_b. may b (Contains-tail arc b arcs in_b)) in
-      (bare is.ca ∷ rest.0, (one, is.is_mirror.tail ∙ walk.0, subst (λ n. graphs.Path (open_arcs chosen q k) n rest.0 v) (sym is.is_mirror.head) rest.1))
+      (bare is.ca ∷ rest.0, (one, is.is_mirror.tail ∙ walk.0, subst (λ n. graphs.ArcPath (open_arcs chosen q k) n rest.0 v) (sym is.is_mirror.head) rest.1))
 
   delivered_comes : (failed : FailureSet) (d : DistanceMap) (p : Packet) → (is : IsIn classes p) → (arcs : List Arc) → IsDelivered net ends failed d p arcs →
       ((arc : Arc) → Contains arcs arc → MayBreak kind arc) → Comes chosen q is.place
@@ -106,7 +107,7 @@ module _ (net : Network) (ends : Ends) (classes : List Class) (chosen : ℕ → 
     links : links_of arcs ≡ graphs.links_of way
     heads : map head_router arcs ≡ map (λ (a : shown.Arc). a.head) way
     leads : Path net ends.to u arcs v
-    permitted : (p : Packet) → IsOf class p → AllByRecursion (λ arc. ArcPermits net arc p) arcs
+    permitted : (p : Packet) → IsOfClass class p → AllByRecursion (λ arc. ArcPermits net arc p) arcs
     breaks : AllByRecursion (MayBreak kind) arcs
 
   record Open (k : ℕ) (class : Class) (a : shown.Arc) : Type 0 where
@@ -116,13 +117,13 @@ module _ (net : Network) (ends : Ends) (classes : List Class) (chosen : ℕ → 
     link : ◌≡◌ {A = Link} (record { 0 = arc.link }) a.link
     tail : tail_router arc ≡ a.tail
     head : head_router arc ≡ a.head
-    permits : (p : Packet) → IsOf class p → ArcPermits net arc p
+    permits : (p : Packet) → IsOfClass class p → ArcPermits net arc p
     breaks : MayBreak kind arc
 
   from_open : (k : ℕ) (class : Class) → slice_get classes k ≡ Some class → (a : shown.Arc) → Contains (open_arcs chosen q k) a → Open k class a
   from_open k class at a one =
-      let r = from_map bare (filter (is_open chosen k) (counted q)) a one in
-      let s = from_filter (is_open chosen k) (counted q) r.0 r.1 in
+      let r = from_map bare (filter (is_arc_open chosen k) (counted_arcs q)) a one in
+      let s = from_filter (is_arc_open chosen k) (counted_arcs q) r.0 r.1 in
       let t = from_filter (is_counted q.demand) q.arcs r.0 s.0 in
       let o : IsOpenTo chosen k r.0 = open_to chosen k r.0 s.1 in
       let h : HasMirror net ends classes chosen r.0 = m.to_arc r.0 t.0 o.routed in
@@ -138,7 +139,7 @@ module _ (net : Network) (ends : Ends) (classes : List Class) (chosen : ℕ → 
         breaks = counts_breaks kind r.0 h.arc h.is_mirror.waypoint (subst (λ (d : Demand). is_counted d r.0 ≡ true) demand t.1);
       }
 
-  way_of : (k : ℕ) (class : Class) → slice_get classes k ≡ Some class → (way : List shown.Arc) (u v : ℕ) → graphs.Path (open_arcs chosen q k) u way v → Way k class u way v
+  way_of : (k : ℕ) (class : Class) → slice_get classes k ≡ Some class → (way : List shown.Arc) (u v : ℕ) → graphs.ArcPath (open_arcs chosen q k) u way v → Way k class u way v
   way_of k class at [] u v path = record { arcs = []; links = refl; heads = refl; leads = path; permitted = λ p of_p. tt; breaks = tt }
   way_of k class at (a ∷ way) u v path =
       let o : Open k class a = from_open k class at a path.0 in
@@ -154,7 +155,7 @@ module _ (net : Network) (ends : Ends) (classes : List Class) (chosen : ℕ → 
       }
 
   open_graph : (k : ℕ) → graphs.IsGraph (record { nodes = length net.routers; arcs = open_arcs chosen q k })
-  open_graph k = part_is_graph (length net.routers) (counted q) (is_open chosen k) (part_is_graph (length net.routers) q.arcs (is_counted q.demand) m.graph)
+  open_graph k = part_is_graph (length net.routers) (counted_arcs q) (is_arc_open chosen k) (part_is_graph (length net.routers) q.arcs (is_counted q.demand) m.graph)
 
   -- packets that come are those of a right walk
   pub comes_walk : (whole : Class) (k : ℕ) (class : Class) → slice_get classes k ≡ Some class → LiesIn class whole → Comes chosen q k → (shown : LinkPath) × IsRightWalk net ends kind whole class shown
@@ -191,7 +192,7 @@ either_waypoint arcs = elim (cases_Bool (list_any (λ (arc : Arc). arc.row.waypo
     is_off false h = refl
 
 module _ (net : Network) (ends : Ends) (whole : Class) (classes : List Class) (chosen : ℕ → Bool) (q : Question) (m : Mirrors net ends classes chosen q)
-    (parts : (k : ℕ) (class : Class) → slice_get classes k ≡ Some class → LiesIn class whole) (cover : (p : Packet) → IsOf whole p → IsIn classes p)
+    (parts : (k : ℕ) (class : Class) → slice_get classes k ≡ Some class → LiesIn class whole) (cover : (p : Packet) → IsOfClass whole p → IsIn classes p)
     (reads : (k : ℕ) → k < length q.classes → (class : Class) × (slice_get classes k ≡ Some class)) where
   pub kept_off_blocks : q.demand ≡ demand_of kinds.Blocked → IsKeptOff chosen q → IsBlocked net ends whole
   kept_off_blocks demand kept failed d stable p of_p arcs delivered =

@@ -16,7 +16,7 @@ use Rattle.net_model.specs.declared.policies.PolicyKind.{PolicyKind}
 use Rattle.net_model.specs.declared.policies.PolicyKind.TheVariants as kinds
 use Rattle.net_model.specs.declared.rows.FaceRow.{FaceRow}
 use Rattle.net_model.specs.declared.rows.Network.{Network}
-use Rattle.net_model.specs.Packets.{IsOf, LiesIn, subject}
+use Rattle.net_model.specs.Packets.{IsOfClass, LiesIn, subject}
 use Rattle.net_model.specs.Routing.{Arc, IsArc, tail_router, head_router, tail_face, head_face}
 use Rattle.net_model.specs.Forwarding.{Ends, AreEnds, Enters, Leaves, ListPermits}
 use Rattle.net_model.specs.Policies.{Meets, MeetsAs}
@@ -33,7 +33,7 @@ use Rattle.condition_formula.specs.declared.condition.Condition.TheVariants.{Alw
 use Rattle.condition_formula.specs.declared.condition.ClassEnds.{ClassEnds}
 use Rattle.condition_formula.specs.declared.network.ConditionArc.{ConditionArc}
 use Rattle.condition_formula.specs.declared.network.Question.{Question}
-use Rattle.condition_formula.specs.Conditions.{holds, ends_of, bare, IsMet, MeetsDemand, IsSound, HasEdits}
+use Rattle.condition_formula.specs.Conditions.{comes_true, ends_of, bare, IsMet, MeetsDemand, IsSound, IsAboutEdits}
 use Rattle.condition_formula.specs.Laws.{chosen_in}
 use Rattle.edit_list.specs.declared.edit_kinds.Edit.{Edit}
 use Rattle.edit_list.specs.After.{IsFaceAfter}
@@ -60,7 +60,7 @@ is_sound net policies list policy q valid is =
       target = t.router;
       graph = is_graph net list is.to is.classes valid;
       of_links = All-from (λ (arc : ConditionArc). arc.link.0 < length net.links) (arcs_to net list is.to is.classes) (of_link net list is.to is.classes);
-      arcs = All-from (HasEdits (length list)) (arcs_to net list is.to is.classes) (has_edits net list is.to is.classes);
+      arcs = All-from (IsAboutEdits (length list)) (arcs_to net list is.to is.classes) (has_edits net list is.to is.classes);
       ends = ends_of_edits net list is.source is.source_is.face is.target_is.face is.classes;
     })
 
@@ -89,7 +89,7 @@ module _ (net : Network) (doc : Document) (list : List Edit) (flags : List Bool)
   parts : (k : ℕ) (class : Class) → slice_get is.classes k ≡ Some class → LiesIn class (subject policy)
   parts k class at = All-contains (λ (c : Class). LiesIn c (subject policy)) is.classes class make_up.parts (item_at_place is.classes k class at)
 
-  cover : (p : Packet) → IsOf (subject policy) p → IsIn is.classes p
+  cover : (p : Packet) → IsOfClass (subject policy) p → IsIn is.classes p
   cover p of_p =
       let has : HasPacket is.classes p = make_up.cover p of_p in
       let at = place_of_item is.classes has.class has.one in
@@ -113,26 +113,26 @@ module _ (net : Network) (doc : Document) (list : List Edit) (flags : List Bool)
       get_or-map (class_ends net list is.source is.source_is.face is.target_is.face) is.classes k class (record { enter = Always; leave = Always }) (slice_get_within is.classes k class at) ∙
       ap (class_ends net list is.source is.source_is.face is.target_is.face) (get_or_from_slice_get is.classes k class class at)
 
-  if_up : (b : Bool) (c : Condition) (up : Bool) (P : Type 0) → up ≡ b → (P ↔ IsTrue (holds chosen c)) → (IsTrue up × P) ↔ IsTrue (holds chosen (if b then c else Never))
+  if_up : (b : Bool) (c : Condition) (up : Bool) (P : Type 0) → up ≡ b → (P ↔ IsTrue (comes_true chosen c)) → (IsTrue up × P) ↔ IsTrue (comes_true chosen (if b then c else Never))
   if_up true c up P e value = (λ h. value.0 h.1, λ h. (e, value.1 h))
   if_up false c up P e value = (λ h. absurd (false≢true (sym e ∙ h.0)), λ h. absurd (false≢true h))
 
-  enters : (k : ℕ) (class : Class) → slice_get is.classes k ≡ Some class → (p : Packet) → IsOf class p → Enters after ends p ↔ IsTrue (holds chosen (ends_of asked k).enter)
+  enters : (k : ℕ) (class : Class) → slice_get is.classes k ≡ Some class → (p : Packet) → IsOfClass class p → Enters after ends p ↔ IsTrue (comes_true chosen (ends_of asked k).enter)
   unfolding ends source_now
   enters k class at p of_p =
       let value = if_up is.source_is.face.up (inbound_condition net list class is.source is.source_is.face.list_in) source_now.0.up (ListPermits after source_now.0.list_in p)
       (ap (λ (f : FaceRow). f.up) source_now.2.same)
       (inbound_value net doc list flags after ed class (known k class at) p of_p is.source is.source_is.face is.source_is.at_place source_now.0.list_in source_now.2.list_in) in
-      let E : ClassEnds → Type 0 = λ e. IsTrue (holds chosen e.enter) in
+      let E : ClassEnds → Type 0 = λ e. IsTrue (comes_true chosen e.enter) in
       (λ h. subst E (sym (ends_are k class at)) (value.0 h), λ h. value.1 (subst E (ends_are k class at) h))
 
-  leaves : (k : ℕ) (class : Class) → slice_get is.classes k ≡ Some class → (p : Packet) → IsOf class p → Leaves after ends p ↔ IsTrue (holds chosen (ends_of asked k).leave)
+  leaves : (k : ℕ) (class : Class) → slice_get is.classes k ≡ Some class → (p : Packet) → IsOfClass class p → Leaves after ends p ↔ IsTrue (comes_true chosen (ends_of asked k).leave)
   unfolding ends target_now
   leaves k class at p of_p =
       let value = if_up is.target_is.face.up (outbound_condition net list class is.target_is.face.list_out) target_now.0.up (ListPermits after target_now.0.list_out p)
       (ap (λ (f : FaceRow). f.up) target_now.2.same)
       (outbound_value net doc list flags after ed class (known k class at) p of_p is.target_is.face.list_out target_now.0.list_out target_now.2.list_out) in
-      let E : ClassEnds → Type 0 = λ e. IsTrue (holds chosen e.leave) in
+      let E : ClassEnds → Type 0 = λ e. IsTrue (comes_true chosen e.leave) in
       (λ h. subst E (sym (ends_are k class at)) (value.0 h), λ h. value.1 (subst E (ends_are k class at) h))
 
   mirrors : Mirrors after ends is.classes chosen asked

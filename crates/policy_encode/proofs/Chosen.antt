@@ -6,11 +6,11 @@ use Rattle.std.proofs.lemmas.Bool.{false≢true, cases_Bool, cases_lt, ltb-false
 use Rattle.std.proofs.lemmas.List.Quantifiers.{position-Some}
 use Rattle.std.proofs.lemmas.List.Sums.{fails_before_first}
 use Rattle.arc_base.proofs.Items.{Contains-head, Contains-tail, Contains-cases, Contains-none}
-use Rattle.condition_formula.specs.Conditions.{holds}
+use Rattle.condition_formula.specs.Conditions.{comes_true}
 use Rattle.condition_formula.specs.Laws.{chosen_in}
 use Rattle.edit_list.specs.declared.edit_kinds.Edit.{Edit}
 use Rattle.edit_list.specs.Prices.{chosen_of}
-use Rattle.policy_encode.specs.Turning.{is_same, place_of, condition_at, turned}
+use Rattle.policy_encode.specs.Turning.{is_same_edit, place_of, condition_at, turned}
 use Rattle.policy_encode.proofs.Same.{is_same_itself, is_same_true}
 
 -- a chosen edit has a place whose flag says so
@@ -55,13 +55,13 @@ not_found p list none = elim (cases_Bool (nat_lt (position_or_len p list) (lengt
 
 pub no_place : (list : List Edit) (x : Edit) → place_of list x ≡ None → (k : ℕ) → k < length list → get_or list k x ≢ x
 no_place list x none k l is =
-    let past : length list ≤ position_or_len (is_same x) list = not_found (is_same x) list none in
-    let fails = fails_before_first (is_same x) list k x (omega (arith, l, past)) in
-    false≢true (sym fails ∙ ap (is_same x) is ∙ is_same_itself x)
+    let past : length list ≤ position_or_len (is_same_edit x) list = not_found (is_same_edit x) list none in
+    let fails = fails_before_first (is_same_edit x) list k x (omega (arith, l, past)) in
+    false≢true (sym fails ∙ ap (is_same_edit x) is ∙ is_same_itself x)
 
 pub some_place : (list : List Edit) (x : Edit) (k : ℕ) → place_of list x ≡ Some k → (k < length list) × (get_or list k x ≡ x)
 some_place list x k found =
-    let r = position-Some (is_same x) list k x found in
+    let r = position-Some (is_same_edit x) list k x found in
     (r.0, sym (is_same_true x (get_or list k x) r.1))
 
 -- in a list of different edits an edit has one place
@@ -75,19 +75,19 @@ one_place list apart x j k l m at_j at_k = elim (cases_lt j k) [
 ]
 
 module _ (list : List Edit) (apart : AllPairs (λ e f. e ≢ f) list) (flags : List Bool) (x : Edit) (answer : Bool) where
-  at_true : (k : ℕ) → chosen_in flags k ≡ true → (b : Bool) → holds (chosen_in flags) (condition_at b (Some k)) ≡ not b
+  at_true : (k : ℕ) → chosen_in flags k ≡ true → (b : Bool) → comes_true (chosen_in flags) (condition_at b (Some k)) ≡ not b
   at_true k t true = ap not t
   at_true k t false = t
 
-  at_false : (k : ℕ) → chosen_in flags k ≡ false → (b : Bool) → holds (chosen_in flags) (condition_at b (Some k)) ≡ b
+  at_false : (k : ℕ) → chosen_in flags k ≡ false → (b : Bool) → comes_true (chosen_in flags) (condition_at b (Some k)) ≡ b
   at_false k t true = ap not t
   at_false k t false = t
 
-  at_none : (b : Bool) → holds (chosen_in flags) (condition_at b None) ≡ b
+  at_none : (b : Bool) → comes_true (chosen_in flags) (condition_at b None) ≡ b
   at_none true = refl
   at_none false = refl
 
-  turns : Contains (chosen_of list flags) x → (o : Option ℕ) → place_of list x ≡ o → holds (chosen_in flags) (condition_at answer o) ≡ not answer
+  turns : Contains (chosen_of list flags) x → (o : Option ℕ) → place_of list x ≡ o → comes_true (chosen_in flags) (condition_at answer o) ≡ not answer
   turns chosen None none = let r = from_chosen list flags x chosen in absurd (no_place list x none r.0 (r.1).within (r.1).is)
   turns chosen (Some k) found =
       let r = from_chosen list flags x chosen in
@@ -95,7 +95,7 @@ module _ (list : List Edit) (apart : AllPairs (λ e f. e ≢ f) list) (flags : L
       let same : r.0 ≡ k = one_place list apart x r.0 k (r.1).within p.0 (r.1).is p.1 in
       at_true k (subst (λ (n : ℕ). chosen_in flags n ≡ true) same (r.1).flag) answer
 
-  stays : (¬ Contains (chosen_of list flags) x) → (o : Option ℕ) → place_of list x ≡ o → holds (chosen_in flags) (condition_at answer o) ≡ answer
+  stays : (¬ Contains (chosen_of list flags) x) → (o : Option ℕ) → place_of list x ≡ o → comes_true (chosen_in flags) (condition_at answer o) ≡ answer
   stays none None found = at_none answer
   stays none (Some k) found = elim (cases_Bool (chosen_in flags k)) [
     | inl t ↦ let p = some_place list x k found in absurd (none (to_chosen list flags x k p.0 p.1 t))
@@ -103,11 +103,11 @@ module _ (list : List Edit) (apart : AllPairs (λ e f. e ≢ f) list) (flags : L
   ]
 
   -- where the edit is chosen the condition is the opposite of the answer
-  pub chosen_turns : Contains (chosen_of list flags) x → holds (chosen_in flags) (turned list x answer) ≡ not answer
+  pub chosen_turns : Contains (chosen_of list flags) x → comes_true (chosen_in flags) (turned list x answer) ≡ not answer
   chosen_turns chosen = turns chosen (place_of list x) refl
 
   -- and else it is the answer
-  pub others_stay : (¬ Contains (chosen_of list flags) x) → holds (chosen_in flags) (turned list x answer) ≡ answer
+  pub others_stay : (¬ Contains (chosen_of list flags) x) → comes_true (chosen_in flags) (turned list x answer) ≡ answer
   others_stay none = stays none (place_of list x) refl
 
 -- an edit is chosen or not

@@ -14,28 +14,28 @@ use Rattle.net_model.specs.declared.policies.PolicyKind.TheVariants as kinds
 use Rattle.net_model.specs.Routing.{Arc}
 use Rattle.net_model.specs.Witnesses.{MayBreak}
 use Rattle.condition_formula.specs.declared.network.ConditionArc.{ConditionArc}
-use Rattle.condition_formula.specs.Conditions.{holds, lists_of, is_routed, is_open, is_counted, bare, IsClearArc}
+use Rattle.condition_formula.specs.Conditions.{comes_true, lists_of, is_routed, is_arc_open, is_counted, bare, IsClearArc}
 use Rattle.policy_encode.specs.Questions.{demand_of}
 
-pub open_from : (chosen : ℕ → Bool) (k : ℕ) (ca : ConditionArc) → IsTrue (is_routed chosen ca) → IsClearArc chosen k ca → is_open chosen k ca ≡ true
+pub open_from : (chosen : ℕ → Bool) (k : ℕ) (ca : ConditionArc) → IsTrue (is_routed chosen ca) → IsClearArc chosen k ca → is_arc_open chosen k ca ≡ true
 open_from chosen k ca routed clear =
     let out = (lists_of ca k).outbound in
     let ins = (lists_of ca k).inbound in
-    list_all-append (holds chosen) ca.routing (out ∷ ins ∷ []) ∙
-    and_from (list_all (holds chosen) ca.routing) (list_all (holds chosen) (out ∷ ins ∷ [])) routed
-    (and_from (holds chosen out) (holds chosen ins && true) clear.outbound (and_from (holds chosen ins) true clear.inbound refl))
+    list_all-append (comes_true chosen) ca.routing (out ∷ ins ∷ []) ∙
+    and_from (list_all (comes_true chosen) ca.routing) (list_all (comes_true chosen) (out ∷ ins ∷ [])) routed
+    (and_from (comes_true chosen out) (comes_true chosen ins && true) clear.outbound (and_from (comes_true chosen ins) true clear.inbound refl))
 
 pub record IsOpenTo (chosen : ℕ → Bool) (k : ℕ) (ca : ConditionArc) : Type 0 where
   pub routed : IsTrue (is_routed chosen ca)
   pub clear : IsClearArc chosen k ca
 
-pub open_to : (chosen : ℕ → Bool) (k : ℕ) (ca : ConditionArc) → is_open chosen k ca ≡ true → IsOpenTo chosen k ca
+pub open_to : (chosen : ℕ → Bool) (k : ℕ) (ca : ConditionArc) → is_arc_open chosen k ca ≡ true → IsOpenTo chosen k ca
 open_to chosen k ca open_is =
     let out = (lists_of ca k).outbound in
     let ins = (lists_of ca k).inbound in
-    let both = and_parts (list_all (holds chosen) ca.routing) (list_all (holds chosen) (out ∷ ins ∷ [])) (sym (list_all-append (holds chosen) ca.routing (out ∷ ins ∷ [])) ∙ open_is) in
-    let lists = and_parts (holds chosen out) (holds chosen ins && true) both.1 in
-    record { routed = both.0; clear = record { outbound = lists.0; inbound = (and_parts (holds chosen ins) true lists.1).0 } }
+    let both = and_parts (list_all (comes_true chosen) ca.routing) (list_all (comes_true chosen) (out ∷ ins ∷ [])) (sym (list_all-append (comes_true chosen) ca.routing (out ∷ ins ∷ [])) ∙ open_is) in
+    let lists = and_parts (comes_true chosen out) (comes_true chosen ins && true) both.1 in
+    record { routed = both.0; clear = record { outbound = lists.0; inbound = (and_parts (comes_true chosen ins) true lists.1).0 } }
 
 -- an arc that counts for the demand may break the policy
 pub counts_breaks : (kind : PolicyKind) (ca : ConditionArc) (arc : Arc) → ca.waypoint ≡ arc.row.waypoint → is_counted (demand_of kind) ca ≡ true → MayBreak kind arc

@@ -14,7 +14,7 @@ use Rattle.net_model.specs.declared.policies.Document.{Document}
 use Rattle.net_model.specs.declared.rows.FaceRow.{FaceRow}
 use Rattle.net_model.specs.declared.rows.Network.{Network}
 use Rattle.net_model.specs.Lists.{permits}
-use Rattle.net_model.specs.Packets.{IsOf, ShareNoPacket, first_packet}
+use Rattle.net_model.specs.Packets.{IsOfClass, ShareNoPacket, first_packet}
 use Rattle.net_model.specs.Forwarding.{ListPermits}
 use Rattle.net_model.specs.Validity.{IsPlace, IsValidFace}
 use Rattle.net_model.specs.Witnesses.{IsUniform, IsUniformFor}
@@ -23,8 +23,8 @@ use Rattle.net_model.proofs.Readings.{item_at_place}
 use Rattle.traffic_classes.specs.Parts.{TellApart}
 use Rattle.traffic_classes.proofs.Sameness.{is_same-Decides}
 use Rattle.traffic_classes.proofs.Unions.{tell_apart}
-use Rattle.traffic_classes.specs.AllClasses.{is_same}
-use Rattle.condition_formula.specs.Conditions.{holds}
+use Rattle.traffic_classes.specs.AllClasses.{is_same_class}
+use Rattle.condition_formula.specs.Conditions.{comes_true}
 use Rattle.condition_formula.specs.Laws.{chosen_in}
 use Rattle.edit_list.specs.declared.edit_kinds.Edit.{Edit}
 use Rattle.edit_list.specs.declared.edit_kinds.Edit.TheVariants as edits
@@ -55,8 +55,8 @@ module _ (net : Network) (doc : Document) (list : List Edit) (flags : List Bool)
   class_in e c there put = class_listed net ed.edits.destinations ed.edits.classes e c (subst (λ (l : List Edit). Contains l e) ed.edits.all (chosen_listed list flags e there)) put
 
   -- two classes of the document are one or share no packet
-  one_or_none : (c d : Class) → Contains ed.edits.classes c → Contains ed.edits.classes d → (p : Packet) → IsOf c p → IsOf d p → c ≡ d
-  one_or_none c d in_c in_d p of_c of_d = elim (cases_Bool (is_same c d)) [
+  one_or_none : (c d : Class) → Contains ed.edits.classes c → Contains ed.edits.classes d → (p : Packet) → IsOfClass c p → IsOfClass d p → c ≡ d
+  one_or_none c d in_c in_d p of_c of_d = elim (cases_Bool (is_same_class c d)) [
     | inl t ↦ (is_same-Decides c d).0 t
     | inr f ↦ elim (apart_of ShareNoPacket ed.edits.classes tell.disjoint c d in_c in_d (λ e. false≢true (sym f ∙ (is_same-Decides c d).1 e))) [
       | inl none ↦ absurd (none p of_c of_d)
@@ -64,7 +64,7 @@ module _ (net : Network) (doc : Document) (list : List Edit) (flags : List Bool)
     ]
   ]
 
-  module _ (class : Class) (one : Contains ed.edits.classes class) (p : Packet) (of_p : IsOf class p) where
+  module _ (class : Class) (one : Contains ed.edits.classes class) (p : Packet) (of_p : IsOfClass class p) where
     alike : (was : PacketList) → Contains net.packet_lists was → (c : Class) → Contains ed.edits.classes c → IsUniform was.entries c
     alike was there c in_c =
         let uniform : IsUniformFor net c = All-contains (IsUniformFor net) ed.edits.classes c tell.uniform in_c in
@@ -72,7 +72,7 @@ module _ (net : Network) (doc : Document) (list : List Edit) (flags : List Bool)
 
     -- the list with entries at its front answers as its condition says
     edited_value : (id : ListId) (was : PacketList) → slice_get net.packet_lists id.0 ≡ Some was →
-        permits (with_classes was.entries (list_classes (chosen_of list flags) id.0)) p ≡ holds (chosen_in flags) (list_condition net list class id)
+        permits (with_classes was.entries (list_classes (chosen_of list flags) id.0)) p ≡ comes_true (chosen_in flags) (list_condition net list class id)
     edited_value id was at =
         let cs = list_classes (chosen_of list flags) id.0 in
         let there : Contains net.packet_lists was = item_at_place net.packet_lists id.0 was at in
@@ -91,14 +91,14 @@ module _ (net : Network) (doc : Document) (list : List Edit) (flags : List Bool)
 
     by_place : (was now : ListId) (o : Option PacketList) → slice_get net.packet_lists was.0 ≡ o →
         IsSomeAnd o (λ l. slice_get after.packet_lists now.0 ≡ Some (edited_packet_list (chosen_of list flags) was.0 l)) →
-        ListPermits after (Some now) p ↔ IsTrue (holds (chosen_in flags) (list_condition net list class was))
+        ListPermits after (Some now) p ↔ IsTrue (comes_true (chosen_in flags) (list_condition net list class was))
     by_place was now None at moves = absurd moves
     by_place was now (Some l) at moves =
         both_by (at_some (λ (k : PacketList). IsTrue (permits k.entries p)) (slice_get after.packet_lists now.0) (edited_packet_list (chosen_of list flags) was.0 l) moves)
-        (told_by (permits (with_classes l.entries (list_classes (chosen_of list flags) was.0)) p) (holds (chosen_in flags) (list_condition net list class was)) (edited_value was l at))
+        (told_by (permits (with_classes l.entries (list_classes (chosen_of list flags) was.0)) p) (comes_true (chosen_in flags) (list_condition net list class was)) (edited_value was l at))
 
     bound_value : (was : ListId) (n : Option ListId) → IsSomeAnd n (PacketListMoves net (chosen_of list flags) after was) →
-        ListPermits after n p ↔ IsTrue (holds (chosen_in flags) (list_condition net list class was))
+        ListPermits after n p ↔ IsTrue (comes_true (chosen_in flags) (list_condition net list class was))
     bound_value was None moves = absurd moves
     bound_value was (Some now) moves = by_place was now (slice_get net.packet_lists was.0) refl moves
 
@@ -107,7 +107,7 @@ module _ (net : Network) (doc : Document) (list : List Edit) (flags : List Bool)
 
     -- what is bound outbound
     pub outbound_value : (o n : Option ListId) → StaysBound (PacketListMoves net (chosen_of list flags) after) o n →
-        ListPermits after n p ↔ IsTrue (holds (chosen_in flags) (outbound_condition net list class o))
+        ListPermits after n p ↔ IsTrue (comes_true (chosen_in flags) (outbound_condition net list class o))
     outbound_value None n stays = (λ h. refl, λ h. none_permits n stays)
     outbound_value (Some was) n stays = bound_value was n stays
 
@@ -120,11 +120,11 @@ module _ (net : Network) (doc : Document) (list : List Edit) (flags : List Bool)
           false≢true (sym (new_packets_unbound net doc list ed.edits face c row (chosen_listed list flags (edits.PacketNew face c) new) at) ∙ bound.1)
 
       new_value : (n : Option ListId) → IsSomeAnd n (λ id. IsSomeAnd (slice_get after.packet_lists id.0) (IsNewPacketList net (chosen_of list flags) face)) →
-          ListPermits after n p ↔ IsTrue (holds (chosen_in flags) (turned list (edits.PacketNew face class) true))
+          ListPermits after n p ↔ IsTrue (comes_true (chosen_in flags) (turned list (edits.PacketNew face class) true))
       new_value None h = absurd h
       new_value (Some id) h = by (slice_get after.packet_lists id.0) h
         where
-          value : permits (new_packet_entries (new_classes (chosen_of list flags) face.0)) p ≡ holds (chosen_in flags) (turned list (edits.PacketNew face class) true)
+          value : permits (new_packet_entries (new_classes (chosen_of list flags) face.0)) p ≡ comes_true (chosen_in flags) (turned list (edits.PacketNew face class) true)
           value = elim (either_chosen list flags (edits.PacketNew face class) apart) [
             | inl picked ↦ new_denies p (new_classes (chosen_of list flags) face.0) class (in_packet_new (chosen_of list flags) face class picked) of_p
                 ∙ sym (chosen_turns list apart flags (edits.PacketNew face class) true picked)
@@ -136,15 +136,15 @@ module _ (net : Network) (doc : Document) (list : List Edit) (flags : List Bool)
           ]
 
           by : (o : Option PacketList) → IsSomeAnd o (IsNewPacketList net (chosen_of list flags) face) →
-              IsSomeAnd o (λ (l : PacketList). IsTrue (permits l.entries p)) ↔ IsTrue (holds (chosen_in flags) (turned list (edits.PacketNew face class) true))
+              IsSomeAnd o (λ (l : PacketList). IsTrue (permits l.entries p)) ↔ IsTrue (comes_true (chosen_in flags) (turned list (edits.PacketNew face class) true))
           by None k = absurd k
-          by (Some l) k = told_by (permits l.entries p) (holds (chosen_in flags) (turned list (edits.PacketNew face class) true)) (ap (λ es. permits es p) k.entries ∙ value)
+          by (Some l) k = told_by (permits l.entries p) (comes_true (chosen_in flags) (turned list (edits.PacketNew face class) true)) (ap (λ es. permits es p) k.entries ∙ value)
 
       by_new : (o n : Option ListId) → row.list_in ≡ o → IfSome row.list_in (λ id. IsPlace net.packet_lists id.0 × IsTrue row.bound_in) → (b : Bool) →
           is_empty (new_classes (chosen_of list flags) face.0) ≡ b →
           MatchBool b (StaysBound (PacketListMoves net (chosen_of list flags) after) o n)
           (IsSomeAnd n (λ id. IsSomeAnd (slice_get after.packet_lists id.0) (IsNewPacketList net (chosen_of list flags) face))) →
-          ListPermits after n p ↔ IsTrue (holds (chosen_in flags) (inbound_condition net list class face o))
+          ListPermits after n p ↔ IsTrue (comes_true (chosen_in flags) (inbound_condition net list class face o))
       by_new None n e valid true empty h = (
         λ k. others_stay list apart flags (edits.PacketNew face class) true
             (λ picked. no_item (new_classes (chosen_of list flags) face.0) empty class (in_packet_new (chosen_of list flags) face class picked)),
@@ -156,7 +156,7 @@ module _ (net : Network) (doc : Document) (list : List Edit) (flags : List Bool)
 
       -- what is bound inbound
       pub inbound_value : (n : Option ListId) → IsInboundAfter net (chosen_of list flags) after face.0 row.list_in n →
-          ListPermits after n p ↔ IsTrue (holds (chosen_in flags) (inbound_condition net list class face row.list_in))
+          ListPermits after n p ↔ IsTrue (comes_true (chosen_in flags) (inbound_condition net list class face row.list_in))
       inbound_value n h =
           let is : IsValidFace net face.0 row = ed.valid.faces face.0 row at in
           by_new row.list_in n refl is.list_in (is_empty (new_classes (chosen_of list flags) face.0)) refl h

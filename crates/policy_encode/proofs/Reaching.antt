@@ -21,7 +21,7 @@ use Rattle.net_model.specs.declared.policies.Class.{Class}
 use Rattle.net_model.specs.declared.policies.PolicyKind.TheVariants as kinds
 use Rattle.net_model.specs.declared.rows.Network.{Network}
 use Rattle.net_model.specs.declared.verdicts.LinkPath.{LinkPath}
-use Rattle.net_model.specs.Packets.{IsOf, LiesIn, first_packet}
+use Rattle.net_model.specs.Packets.{IsOfClass, LiesIn, first_packet}
 use Rattle.net_model.specs.Routing.{Arc, IsArc, tail_router, head_router}
 use Rattle.net_model.specs.Forwarding.{Ends, AreEnds, Enters, Leaves, source_router, target_router}
 use Rattle.net_model.specs.Policies.{Reaches, MeetsAs}
@@ -34,7 +34,7 @@ use Rattle.net_laws.proofs.RightCuts.{right_cuts_break_reach, right_denials_brea
 use Rattle.net_laws.proofs.RightWalks.{part_of}
 use Rattle.condition_formula.specs.declared.network.ConditionArc.{ConditionArc}
 use Rattle.condition_formula.specs.declared.network.Question.{Question}
-use Rattle.condition_formula.specs.Conditions.{holds, ends_of, is_routed, bare, routed_arcs, AreReached, PassesEnds, IsClearArc}
+use Rattle.condition_formula.specs.Conditions.{comes_true, ends_of, is_routed, bare, routed_arcs, AreReached, PassesEnds, IsClearArc}
 use Rattle.policy_encode.specs.Mirrors.{HasMirror, IsMirrored, Mirrors}
 use Rattle.policy_encode.proofs.Mirrors.{part_is_graph}
 use Rattle.policy_encode.proofs.Blocking.{IsIn}
@@ -42,7 +42,7 @@ use Rattle.policy_encode.proofs.Blocking.{IsIn}
 abbrev path_of : List Link → LinkPath
 path_of links = record { links = links }
 
-same_links : (paths : List (List Link)) → graphs.all_links paths ≡ flat_map (λ (path : LinkPath). path.links) (map path_of paths)
+same_links : (paths : List (List Link)) → graphs.links_of_paths paths ≡ flat_map (λ (path : LinkPath). path.links) (map path_of paths)
 same_links [] = refl
 same_links (links ∷ paths) = ap (λ (rest : List Link). links ++ rest) (same_links paths)
 
@@ -67,7 +67,7 @@ link_is l link same = let link_of : ℕ → Link = λ n. record { 0 = n } in ap 
 
 module _ (net : Network) (valid : IsValid net) (ends : Ends) (whole : Class) (are_ends : AreEnds net whole ends) (classes : List Class) (chosen : ℕ → Bool) (q : Question)
     (m : Mirrors net ends classes chosen q)
-    (parts : (k : ℕ) (class : Class) → slice_get classes k ≡ Some class → LiesIn class whole) (cover : (p : Packet) → IsOf whole p → IsIn classes p)
+    (parts : (k : ℕ) (class : Class) → slice_get classes k ≡ Some class → LiesIn class whole) (cover : (p : Packet) → IsOfClass whole p → IsIn classes p)
     (reads : (k : ℕ) → k < length q.classes → (class : Class) × (slice_get classes k ≡ Some class)) where
   -- the network's arcs of a way of routed arcs
   record Way (u : ℕ) (way : List shown.Arc) (v : ℕ) : Type 0 where
@@ -75,7 +75,7 @@ module _ (net : Network) (valid : IsValid net) (ends : Ends) (whole : Class) (ar
     links : links_of arcs ≡ graphs.links_of way
     leads : Path net ends.to u arcs v
 
-  way_of : (way : List shown.Arc) (u v : ℕ) → graphs.Path (routed_arcs chosen q) u way v → Way u way v
+  way_of : (way : List shown.Arc) (u v : ℕ) → graphs.ArcPath (routed_arcs chosen q) u way v → Way u way v
   way_of [] u v path = record { arcs = []; links = refl; leads = path }
   way_of (a ∷ way) u v path =
       let r = from_map bare (filter (is_routed chosen) q.arcs) a path.0 in
@@ -90,7 +90,7 @@ module _ (net : Network) (valid : IsValid net) (ends : Ends) (whole : Class) (ar
         leads = (h.is_arc, h.routed, sym h.is_mirror.tail ∙ ap (λ (b : shown.Arc). b.tail) r.2 ∙ path.1, subst (λ (w : ℕ). Path net ends.to w rest.arcs v) (sym head) rest.leads);
       }
 
-  path_is : (links : List Link) → graphs.IsPath (routed_arcs chosen q) q.source links q.target → IsPath net ends (path_of links)
+  path_is : (links : List Link) → graphs.IsArcPath (routed_arcs chosen q) q.source links q.target → IsPath net ends (path_of links)
   path_is links path =
       let way : Way q.source path.way q.target = way_of path.way q.source q.target path.leads in
       let to_target : Path net ends.to q.source way.arcs (target_router ends) = subst (Path net ends.to q.source way.arcs) m.target way.leads in
@@ -112,7 +112,7 @@ module _ (net : Network) (valid : IsValid net) (ends : Ends) (whole : Class) (ar
 
     right_paths : AreReached chosen q (k + 1) → (paths : List (List Link)) → (source_router ends ≢ target_router ends → length paths ≡ k + 1) →
         (source_router ends ≡ target_router ends → length paths ≡ 0) →
-        All (λ links. graphs.IsPath (routed_arcs chosen q) q.source links q.target) paths → AreDistinct (graphs.all_links paths) → IsRightPaths net ends k whole (map path_of paths)
+        All (λ links. graphs.IsArcPath (routed_arcs chosen q) q.source links q.target) paths → AreDistinct (graphs.links_of_paths paths) → IsRightPaths net ends k whole (map path_of paths)
     right_paths r paths apart together each once = record {
       clear = all_clear r;
       enters = λ p of_p. (let is : IsIn classes p = cover p of_p in (m.enter is.place is.class is.at p is.is_of).1 (r.ends is.place (low_of p is)).enter);
@@ -133,15 +133,15 @@ module _ (net : Network) (valid : IsValid net) (ends : Ends) (whole : Class) (ar
     ]
 
     module _ (met : MeetsAs net ends whole (kinds.Reach k)) where
-      denied : (class : Class) → LiesIn class whole → ((p : Packet) → IsOf class p → Enters net ends p → ¬ Leaves net ends p) → ⊥
+      denied : (class : Class) → LiesIn class whole → ((p : Packet) → IsOfClass class p → Enters net ends p → ¬ Leaves net ends p) → ⊥
       denied class part none = right_denials_break_reach net valid ends k whole class are_ends (record { clear = met.0; part = part; denied = none }) met.1
 
       passes : (j : ℕ) → j < length q.classes → PassesEnds chosen q j
       passes j low =
           let r = reads j low in
           record {
-            enter = is_on (holds chosen (ends_of q j).enter) (λ off. denied r.0 (parts j r.0 r.1) (λ p of_p enters. absurd (false≢true (sym off ∙ (m.enter j r.0 r.1 p of_p).0 enters))));
-            leave = is_on (holds chosen (ends_of q j).leave) (λ off. denied r.0 (parts j r.0 r.1) (λ p of_p enters leaves. false≢true (sym off ∙ (m.leave j r.0 r.1 p of_p).0 leaves)));
+            enter = is_on (comes_true chosen (ends_of q j).enter) (λ off. denied r.0 (parts j r.0 r.1) (λ p of_p enters. absurd (false≢true (sym off ∙ (m.enter j r.0 r.1 p of_p).0 enters))));
+            leave = is_on (comes_true chosen (ends_of q j).leave) (λ off. denied r.0 (parts j r.0 r.1) (λ p of_p enters leaves. false≢true (sym off ∙ (m.leave j r.0 r.1 p of_p).0 leaves)));
           }
 
       clear_of : q.source ≢ q.target → (j : ℕ) → j < length q.classes → (ca : ConditionArc) → Contains q.arcs ca → IsTrue (is_routed chosen ca) → IsClearArc chosen j ca
@@ -149,7 +149,7 @@ module _ (net : Network) (valid : IsValid net) (ends : Ends) (whole : Class) (ar
           let r = reads j low in
           let h : HasMirror net ends classes chosen ca = m.to_arc ca one routed in
           let p : Packet = first_packet r.0 in
-          let of_p : IsOf r.0 p = first_is_of r.0 in
+          let of_p : IsOfClass r.0 p = first_is_of r.0 in
           elim met.0 [
             | inl same ↦ absurd (apart (m.source ∙ same ∙ sym m.target))
             | inr permits ↦ (h.is_mirror.permits j r.0 r.1 p of_p).0 (permits h.arc h.is_arc h.routed p (part_of r.0 whole p (parts j r.0 r.1) of_p))

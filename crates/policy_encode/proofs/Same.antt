@@ -3,11 +3,11 @@ use Rattle.std.proofs.Common.{◌≡◌, ℕ, ◌&&◌, Bool, true, false, nat_e
 use Rattle.std.proofs.lemmas.Bool.{and_parts, eqb-true, eq-eqb}
 use Rattle.arc_base.specs.declared.prefix.Prefix.{Prefix}
 use Rattle.arc_base.proofs.SamePrefix.{same_prefix}
-use Rattle.traffic_classes.specs.AllClasses.{Key as EntryKey, same_key as same_entry}
+use Rattle.traffic_classes.specs.AllClasses.{Key as EntryKey, same_class_key as same_entry}
 use Rattle.traffic_classes.proofs.Sameness.{is_same-Decides}
 use Rattle.edit_list.specs.declared.edit_kinds.Edit.{Edit}
 use Rattle.edit_list.specs.declared.edit_kinds.Edit.TheVariants.{Session, RouteList, RouteNew, PacketList, PacketNew}
-use Rattle.policy_encode.specs.Turning.{NumbersOfEdit, key_of, same_key, is_same}
+use Rattle.policy_encode.specs.Turning.{NumbersOfEdit, key_of, same_edit_key, is_same_edit}
 
 -- the numbers of an edit's entry, as those of a class stand
 abbrev entry_of : NumbersOfEdit → EntryKey
@@ -22,7 +22,7 @@ grouped : (x a b c d e f : Bool) → ((((((x && a) && b) && c) && d) && e) && f)
 grouped true a b c d e f = refl
 grouped false a b c d e f = refl
 
-parts_of : (k l : NumbersOfEdit) → same_key k l ≡ true → Parts k l
+parts_of : (k l : NumbersOfEdit) → same_edit_key k l ≡ true → Parts k l
 parts_of k l t =
     let first = nat_eq k.0 l.0 && nat_eq k.1 l.1 in
     let two = and_parts first (same_entry (entry_of k) (entry_of l))
@@ -30,12 +30,12 @@ parts_of k l t =
     let front = and_parts (nat_eq k.0 l.0) (nat_eq k.1 l.1) two.0 in
     record { kind = eqb-true k.0 l.0 front.0; place = eqb-true k.1 l.1 front.1; entry = two.1 }
 
-same_itself : (k : NumbersOfEdit) → same_key k k ≡ true
+same_itself : (k : NumbersOfEdit) → same_edit_key k k ≡ true
 same_itself k =
     let q : (n : ℕ) → nat_eq n n ≡ true = λ n. eq-eqb n n refl in
     rw (q k.0) (rw (q k.1) (rw (q k.2) (rw (q k.3) (rw (q k.4) (rw (q k.5) (rw (q k.6) (q k.7)))))))
 
-pub is_same_itself : (e : Edit) → is_same e e ≡ true
+pub is_same_itself : (e : Edit) → is_same_edit e e ≡ true
 is_same_itself e = same_itself (key_of e)
 
 -- an entry for a prefix ends in numbers that are always the same
@@ -56,5 +56,5 @@ by_parts (PacketList x u) (PacketList y v) p = let q = p.place in let r = (is_sa
 by_parts (PacketNew x u) (PacketNew y v) p = let q = p.place in let r = (is_same-Decides u v).0 p.entry in λ i. PacketNew (record { 0 = q i }) (r i)
 by_parts _ _ p = absurd (cc p.kind)
 
-pub is_same_true : (e f : Edit) → is_same e f ≡ true → e ≡ f
+pub is_same_true : (e f : Edit) → is_same_edit e f ≡ true → e ≡ f
 is_same_true e f t = by_parts e f (parts_of (key_of e) (key_of f) t)

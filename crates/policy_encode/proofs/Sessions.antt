@@ -24,7 +24,7 @@ use Rattle.net_model.specs.Lists.{route_permits}
 use Rattle.net_model.specs.Routing.{session_at, IsOpen, FilterPermits, RouteListPermits}
 use Rattle.net_model.specs.Validity.{IsPlace, IsValidSession, FitsProtocol}
 use Rattle.net_model.proofs.Readings.{item_at_place}
-use Rattle.condition_formula.specs.Conditions.{holds}
+use Rattle.condition_formula.specs.Conditions.{comes_true}
 use Rattle.condition_formula.specs.Laws.{chosen_in}
 use Rattle.edit_list.specs.declared.edit_kinds.Edit.{Edit}
 use Rattle.edit_list.specs.declared.edit_kinds.Edit.TheVariants as edits
@@ -118,7 +118,7 @@ module _ (net : Network) (doc : Document) (list : List Edit) (flags : List Bool)
 
   module _ (to : Prefix) where
     edited_value : (id : ListId) (was : RouteList) → slice_get net.route_lists id.0 ≡ Some was →
-        route_permits (with_prefixes was.entries (list_prefixes (chosen_of list flags) id.0)) to ≡ holds (chosen_in flags) (turned list (edits.RouteList id to) (route_answer net id to))
+        route_permits (with_prefixes was.entries (list_prefixes (chosen_of list flags) id.0)) to ≡ comes_true (chosen_in flags) (turned list (edits.RouteList id to) (route_answer net id to))
     edited_value id was at =
         let ps = list_prefixes (chosen_of list flags) id.0 in
         let answer : route_permits was.entries to ≡ route_answer net id to = ap (λ o. option_map_or (λ (l : RouteList). route_permits l.entries to) o false) (sym at) in
@@ -133,15 +133,15 @@ module _ (net : Network) (doc : Document) (list : List Edit) (flags : List Bool)
 
     by_place : (was now : ListId) (o : Option RouteList) → slice_get net.route_lists was.0 ≡ o →
         IsSomeAnd o (λ l. slice_get after.route_lists now.0 ≡ Some (edited_route_list (chosen_of list flags) was.0 l)) →
-        RouteListPermits after (Some now) to ↔ IsTrue (holds (chosen_in flags) (turned list (edits.RouteList was to) (route_answer net was to)))
+        RouteListPermits after (Some now) to ↔ IsTrue (comes_true (chosen_in flags) (turned list (edits.RouteList was to) (route_answer net was to)))
     by_place was now None at moves = absurd moves
     by_place was now (Some l) at moves =
         both_by (at_some (λ (k : RouteList). IsTrue (route_permits k.entries to)) (slice_get after.route_lists now.0) (edited_route_list (chosen_of list flags) was.0 l) moves)
         (told_by (route_permits (with_prefixes l.entries (list_prefixes (chosen_of list flags) was.0)) to)
-        (holds (chosen_in flags) (turned list (edits.RouteList was to) (route_answer net was to))) (edited_value was l at))
+        (comes_true (chosen_in flags) (turned list (edits.RouteList was to) (route_answer net was to))) (edited_value was l at))
 
     bound_value : (was : ListId) (n : Option ListId) → IsSomeAnd n (RouteListMoves net (chosen_of list flags) after was) →
-        RouteListPermits after n to ↔ IsTrue (holds (chosen_in flags) (turned list (edits.RouteList was to) (route_answer net was to)))
+        RouteListPermits after n to ↔ IsTrue (comes_true (chosen_in flags) (turned list (edits.RouteList was to) (route_answer net was to)))
     bound_value was None moves = absurd moves
     bound_value was (Some now) moves = by_place was now (slice_get net.route_lists was.0) refl moves
 
@@ -155,7 +155,7 @@ module _ (net : Network) (doc : Document) (list : List Edit) (flags : List Bool)
           let same : t.0 ≡ s = one_session net ed.valid t.0 s t.1 stands (ap (λ (f : Face). f.0) t.2) in
           false≢true (sym t.3 ∙ ap (λ (x : SessionRow). x.bound) same ∙ bound.1)
 
-      new_answer : route_permits (new_route_entries (new_prefixes (chosen_of list flags) s.face.0)) to ≡ holds (chosen_in flags) (turned list (edits.RouteNew s.face to) true)
+      new_answer : route_permits (new_route_entries (new_prefixes (chosen_of list flags) s.face.0)) to ≡ comes_true (chosen_in flags) (turned list (edits.RouteNew s.face to) true)
       new_answer = elim (either_chosen list flags (edits.RouteNew s.face to) apart) [
         | inl picked ↦ new_refuses to (new_prefixes (chosen_of list flags) s.face.0) (in_route_new (chosen_of list flags) s.face to picked)
             ∙ sym (chosen_turns list apart flags (edits.RouteNew s.face to) true picked)
@@ -164,19 +164,19 @@ module _ (net : Network) (doc : Document) (list : List Edit) (flags : List Bool)
       ]
 
       new_list : (o : Option RouteList) → IsSomeAnd o (IsNewRouteList net (chosen_of list flags) s.face) →
-          IsSomeAnd o (λ (l : RouteList). IsTrue (route_permits l.entries to)) ↔ IsTrue (holds (chosen_in flags) (turned list (edits.RouteNew s.face to) true))
+          IsSomeAnd o (λ (l : RouteList). IsTrue (route_permits l.entries to)) ↔ IsTrue (comes_true (chosen_in flags) (turned list (edits.RouteNew s.face to) true))
       new_list None h = absurd h
-      new_list (Some l) h = told_by (route_permits l.entries to) (holds (chosen_in flags) (turned list (edits.RouteNew s.face to) true)) (ap (λ es. route_permits es to) h.entries ∙ new_answer)
+      new_list (Some l) h = told_by (route_permits l.entries to) (comes_true (chosen_in flags) (turned list (edits.RouteNew s.face to) true)) (ap (λ es. route_permits es to) h.entries ∙ new_answer)
 
       new_value : (n : Option ListId) → IsSomeAnd n (λ id. IsSomeAnd (slice_get after.route_lists id.0) (IsNewRouteList net (chosen_of list flags) s.face)) →
-          RouteListPermits after n to ↔ IsTrue (holds (chosen_in flags) (turned list (edits.RouteNew s.face to) true))
+          RouteListPermits after n to ↔ IsTrue (comes_true (chosen_in flags) (turned list (edits.RouteNew s.face to) true))
       new_value None h = absurd h
       new_value (Some id) h = new_list (slice_get after.route_lists id.0) h
 
       by_new : (o n : Option ListId) → s.filter ≡ o → IfSome s.filter (λ id. IsPlace net.route_lists id.0 × IsTrue s.bound) → (b : Bool) → is_empty (new_prefixes (chosen_of list flags) s.face.0) ≡ b →
           MatchBool b (StaysBound (RouteListMoves net (chosen_of list flags) after) o n)
           (IsSomeAnd n (λ id. IsSomeAnd (slice_get after.route_lists id.0) (IsNewRouteList net (chosen_of list flags) s.face))) →
-          RouteListPermits after n to ↔ IsTrue (holds (chosen_in flags) (filter_condition net list to s.face o))
+          RouteListPermits after n to ↔ IsTrue (comes_true (chosen_in flags) (filter_condition net list to s.face o))
       by_new None n e valid true empty h = (
         λ k. others_stay list apart flags (edits.RouteNew s.face to) true
             (λ picked. no_item (new_prefixes (chosen_of list flags) s.face.0) empty to (in_route_new (chosen_of list flags) s.face to picked)),
@@ -187,22 +187,22 @@ module _ (net : Network) (doc : Document) (list : List Edit) (flags : List Bool)
       by_new (Some was) n e valid false empty h = let p = some_item (new_prefixes (chosen_of list flags) s.face.0) empty in absurd (none_new valid was e p.0 p.1)
 
       filter_value : (n : Option ListId) → IsFilterAfter net (chosen_of list flags) after s.face s.filter n →
-          RouteListPermits after n to ↔ IsTrue (holds (chosen_in flags) (filter_condition net list to s.face s.filter))
+          RouteListPermits after n to ↔ IsTrue (comes_true (chosen_in flags) (filter_condition net list to s.face s.filter))
       filter_value n h =
           let is : IsValidSession net s = All-contains (IsValidSession net) net.sessions s ed.valid.sessions stands in
           by_new s.filter n refl is.filter (is_empty (new_prefixes (chosen_of list flags) s.face.0)) refl h
 
     -- what an interface takes after the edits is what its condition says
-    pub route_value : (face : Face) → FilterPermits after (session_at after face) to ↔ IsTrue (holds (chosen_in flags) (route_condition net list to face (session_at net face)))
+    pub route_value : (face : Face) → FilterPermits after (session_at after face) to ↔ IsTrue (comes_true (chosen_in flags) (route_condition net list to face (session_at net face)))
     route_value face = elim (sessions_match net (chosen_of list flags) after ed.is_after face) [
       | inl unpicked ↦ (
-        λ h. subst (λ (o : Option SessionRow). IsTrue (holds (chosen_in flags) (route_condition net list to face o))) (sym unpicked.was_none) refl,
+        λ h. subst (λ (o : Option SessionRow). IsTrue (comes_true (chosen_in flags) (route_condition net list to face o))) (sym unpicked.was_none) refl,
         λ h. subst (λ (o : Option SessionRow). FilterPermits after o to) (sym unpicked.now_none) tt,
       )
       | inr has ↦
           let stands : Contains net.sessions has.was = item_at_place net.sessions has.place has.was has.stands in
           let value = filter_value has.was stands has.now.filter has.is.filter in
-          let C : Face → Option SessionRow → Type 0 = λ f o. IsTrue (holds (chosen_in flags) (route_condition net list to f o)) in
+          let C : Face → Option SessionRow → Type 0 = λ f o. IsTrue (comes_true (chosen_in flags) (route_condition net list to f o)) in
           let same : ◌≡◌ {A = Face} has.was.face face = let face_of : ℕ → Face = λ n. record { 0 = n } in ap face_of has.at_face in (
             λ h. subst (λ (o : Option SessionRow). C face o) (sym has.was_at)
                 (subst (λ (f : Face). C f (Some has.was)) same (value.0 (subst (λ (o : Option SessionRow). FilterPermits after o to) has.now_at h))),
@@ -214,14 +214,14 @@ module _ (net : Network) (doc : Document) (list : List Edit) (flags : List Bool)
   -- flags
 
   turn_of : (face : Face) (flag now : Bool) → now ≡ turned_if (turns_session (chosen_of list flags) face.0) flag → (rest : Bool) → rest ≡ true →
-      not now ≡ holds (chosen_in flags) (turned list (edits.Session face) (not flag && rest))
+      not now ≡ comes_true (chosen_in flags) (turned list (edits.Session face) (not flag && rest))
   turn_of face flag now is rest all = by (turns_session (chosen_of list flags) face.0) refl
     where
       with_rest : (b : Bool) → (b && rest) ≡ b
       with_rest true = all
       with_rest false = refl
 
-      by : (t : Bool) → turns_session (chosen_of list flags) face.0 ≡ t → not now ≡ holds (chosen_in flags) (turned list (edits.Session face) (not flag && rest))
+      by : (t : Bool) → turns_session (chosen_of list flags) face.0 ≡ t → not now ≡ comes_true (chosen_in flags) (turned list (edits.Session face) (not flag && rest))
       by true t =
           ap not (is ∙ ap (λ b. turned_if b flag) t) ∙ ap not (sym (with_rest (not flag))) ∙
           sym (chosen_turns list apart flags (edits.Session face) (not flag && rest) (session_in (chosen_of list flags) face t))
@@ -236,14 +236,14 @@ module _ (net : Network) (doc : Document) (list : List Edit) (flags : List Bool)
   -- whether an interface of an able link talks to its neighbour
   pub open_value : (face : Face) (was now : FaceRow) → IsFaceAfter net (chosen_of list flags) after face.0 was now → slice_get net.faces face.0 ≡ Some was →
       (net.protocol ≡ Bgp → session_at net face ≡ None → ⊥) →
-      IsOpen (session_at after face) now ↔ IsTrue (holds (chosen_in flags) (session_condition net list face was))
+      IsOpen (session_at after face) now ↔ IsTrue (comes_true (chosen_in flags) (session_condition net list face was))
   open_value face was now row at able = by net.protocol refl ed.valid.protocol row.passive
     where
       by_ospf : session_at net face ≡ None → session_at after face ≡ None → now.passive ≡ turned_if (turns_session (chosen_of list flags) face.0) was.passive →
-          IsOpen (session_at after face) now ↔ IsTrue (holds (chosen_in flags) (session_condition net list face was))
+          IsOpen (session_at after face) now ↔ IsTrue (comes_true (chosen_in flags) (session_condition net list face was))
       by_ospf was_none now_none passive =
-          let value : not now.passive ≡ holds (chosen_in flags) (turned list (edits.Session face) (is_open None was)) = turn_of face was.passive now.passive passive true refl in
-          let D : Option SessionRow → Type 0 = λ o. IsTrue (holds (chosen_in flags) (turned list (edits.Session face) (is_open o was))) in (
+          let value : not now.passive ≡ comes_true (chosen_in flags) (turned list (edits.Session face) (is_open None was)) = turn_of face was.passive now.passive passive true refl in
+          let D : Option SessionRow → Type 0 = λ o. IsTrue (comes_true (chosen_in flags) (turned list (edits.Session face) (is_open o was))) in (
             λ h. subst D (sym was_none) (sym value ∙ ap not h.active),
             λ h. record {
               active = not_true now.passive (value ∙ subst D was_none h);
@@ -252,16 +252,16 @@ module _ (net : Network) (doc : Document) (list : List Edit) (flags : List Bool)
           )
 
       by_bgp : now.passive ≡ was.passive → IsFalse was.passive → (has : HasSession net (chosen_of list flags) after face) →
-          IsOpen (session_at after face) now ↔ IsTrue (holds (chosen_in flags) (session_condition net list face was))
+          IsOpen (session_at after face) now ↔ IsTrue (comes_true (chosen_in flags) (session_condition net list face was))
       by_bgp passive active has =
           let down : has.now.down ≡ turned_if (turns_session (chosen_of list flags) face.0) has.was.down =
           has.is.down ∙ ap (λ n. turned_if (turns_session (chosen_of list flags) n) has.was.down) has.at_face in
-          let turned_down : not has.now.down ≡ holds (chosen_in flags) (turned list (edits.Session face) (not has.was.down && true)) = turn_of face has.was.down has.now.down down true refl in
+          let turned_down : not has.now.down ≡ comes_true (chosen_in flags) (turned list (edits.Session face) (not has.was.down && true)) = turn_of face has.was.down has.now.down down true refl in
           let with_true : (b : Bool) → (b && true) ≡ b = λ b. elim b as (λ c. (c && true) ≡ c) [ true ↦ refl | false ↦ refl ] in
           let open_is : is_open (Some has.was) was ≡ (not has.was.down && true) = ap (λ b. not b && not has.was.down) active ∙ sym (with_true (not has.was.down)) in
-          let value : not has.now.down ≡ holds (chosen_in flags) (turned list (edits.Session face) (is_open (Some has.was) was)) =
-          turned_down ∙ ap (λ b. holds (chosen_in flags) (turned list (edits.Session face) b)) (sym open_is) in
-          let D : Option SessionRow → Type 0 = λ o. IsTrue (holds (chosen_in flags) (turned list (edits.Session face) (is_open o was))) in
+          let value : not has.now.down ≡ comes_true (chosen_in flags) (turned list (edits.Session face) (is_open (Some has.was) was)) =
+          turned_down ∙ ap (λ b. comes_true (chosen_in flags) (turned list (edits.Session face) b)) (sym open_is) in
+          let D : Option SessionRow → Type 0 = λ o. IsTrue (comes_true (chosen_in flags) (turned list (edits.Session face) (is_open o was))) in
           let E : Option SessionRow → Type 0 = λ o. IfSome o (λ s. IsFalse s.down) in (
             λ h. subst D (sym has.was_at) (let d : IsFalse has.now.down = subst E has.now_at h.not_down in sym value ∙ ap not d),
             λ h. record {
@@ -278,7 +278,7 @@ module _ (net : Network) (doc : Document) (list : List Edit) (flags : List Bool)
       no_rows (x ∷ xs) e = absurd (omega (arith, e))
 
       by : (protocol : Protocol) → net.protocol ≡ protocol → FitsProtocol net.protocol net → now.passive ≡ passive_after net.protocol (chosen_of list flags) face.0 was.passive →
-          IsOpen (session_at after face) now ↔ IsTrue (holds (chosen_in flags) (session_condition net list face was))
+          IsOpen (session_at after face) now ↔ IsTrue (comes_true (chosen_in flags) (session_condition net list face was))
       by Ospf e fits passive =
           let none : net.sessions ≡ [] = subst (λ (q : Protocol). FitsProtocol q net) e fits in
           let whole : length after.sessions ≡ length net.sessions = ed.is_after.sessions.whole in

@@ -28,7 +28,7 @@ use Rattle.condition_formula.specs.declared.condition.Condition.TheVariants.{Alw
 use Rattle.condition_formula.specs.declared.condition.ArcLists.{ArcLists}
 use Rattle.condition_formula.specs.declared.condition.ClassEnds.{ClassEnds}
 use Rattle.condition_formula.specs.declared.network.ConditionArc.{ConditionArc}
-use Rattle.condition_formula.specs.Conditions.{IsOfEdits, HasEdits, bare}
+use Rattle.condition_formula.specs.Conditions.{IsOfEdits, IsAboutEdits, bare}
 use Rattle.edit_list.specs.declared.edit_kinds.Edit.{Edit}
 use Rattle.edit_list.specs.declared.edit_kinds.Edit.TheVariants as edits
 use Rattle.arc_base.specs.Numbered.{placed}
@@ -96,7 +96,7 @@ module _ (net : Network) (list : List Edit) where
       (tt, tt)
 
   module _ (to : Prefix) (classes : List Class) where
-    pub has_edits : (ca : ConditionArc) → Contains (arcs_to net list to classes) ca → HasEdits (length list) ca
+    pub has_edits : (ca : ConditionArc) → Contains (arcs_to net list to classes) ca → IsAboutEdits (length list) ca
     has_edits ca one =
         let from : Comes net list to classes ca = comes_from net list to classes ca one in
         let x : Condition = session_condition net list from.row.a from.a in
@@ -105,7 +105,7 @@ module _ (net : Network) (list : List Edit) where
         let of_x : IsOfEdits (length list) x = turned_of list (edits.Session from.row.a) (is_open (session_at net from.row.a) from.a) in
         let of_y : IsOfEdits (length list) y = turned_of list (edits.Session from.row.b) (is_open (session_at net from.row.b) from.b) in
         let of_z : IsOfEdits (length list) z = route_of to (tail_end from.row from.from_a) (session_at net (tail_end from.row from.from_a)) in
-        subst (HasEdits (length list)) from.is (record {
+        subst (IsAboutEdits (length list)) from.is (record {
           routing = All-cons (IsOfEdits (length list)) x (y ∷ z ∷ []) of_x
               (All-cons (IsOfEdits (length list)) y (z ∷ []) of_y (All-cons (IsOfEdits (length list)) z [] of_z (All-nil (IsOfEdits (length list)))));
           lists = λ k. mapped_of (λ (l : ArcLists). IsOfEdits (length list) l.outbound × IsOfEdits (length list) l.inbound)

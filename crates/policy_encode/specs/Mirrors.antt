@@ -5,13 +5,13 @@ use Rattle.graph_flow.specs.Paths.{IsGraph}
 use Rattle.net_model.specs.declared.lists.Packet.{Packet}
 use Rattle.net_model.specs.declared.policies.Class.{Class}
 use Rattle.net_model.specs.declared.rows.Network.{Network}
-use Rattle.net_model.specs.Packets.{IsOf}
+use Rattle.net_model.specs.Packets.{IsOfClass}
 use Rattle.net_model.specs.Routing.{Arc, IsArc, IsRouted, tail_router, head_router}
 use Rattle.net_model.specs.Forwarding.{Ends, ArcPermits, Enters, Leaves, source_router}
 use Rattle.net_model.specs.Forwarding.{target_router}
 use Rattle.condition_formula.specs.declared.network.ConditionArc.{ConditionArc}
 use Rattle.condition_formula.specs.declared.network.Question.{Question}
-use Rattle.condition_formula.specs.Conditions.{holds, ends_of, is_routed, bare, IsClearArc}
+use Rattle.condition_formula.specs.Conditions.{comes_true, ends_of, is_routed, bare, IsClearArc}
 
 -- the arc of conditions mirrors the network's: it is over its link and between its routers, and its
 -- list conditions hold where its lists permit
@@ -22,7 +22,7 @@ pub record IsMirror (net : Network) (classes : List Class) (chosen : ℕ → Boo
   pub head : ca.head ≡ head_router arc
   pub waypoint : ca.waypoint ≡ arc.row.waypoint
   pub permits : (k : ℕ) (class : Class) → slice_get classes k ≡ Some class →
-      (p : Packet) → IsOf class p → ArcPermits net arc p ↔ IsClearArc chosen k ca
+      (p : Packet) → IsOfClass class p → ArcPermits net arc p ↔ IsClearArc chosen k ca
 
 -- the arc of conditions mirrors a routed arc
 pub record HasMirror (net : Network) (ends : Ends) (classes : List Class) (chosen : ℕ → Bool)
@@ -54,6 +54,8 @@ pub record Mirrors (net : Network) (ends : Ends) (classes : List Class) (chosen 
   pub to_arc : (ca : ConditionArc) → Contains q.arcs ca → IsTrue (is_routed chosen ca) →
       HasMirror net ends classes chosen ca
   pub enter : (k : ℕ) (class : Class) → slice_get classes k ≡ Some class →
-      (p : Packet) → IsOf class p → Enters net ends p ↔ IsTrue (holds chosen (ends_of q k).enter)
+      (p : Packet) → IsOfClass class p → Enters net ends p ↔
+      IsTrue (comes_true chosen (ends_of q k).enter)
   pub leave : (k : ℕ) (class : Class) → slice_get classes k ≡ Some class →
-      (p : Packet) → IsOf class p → Leaves net ends p ↔ IsTrue (holds chosen (ends_of q k).leave)
+      (p : Packet) → IsOfClass class p → Leaves net ends p ↔
+      IsTrue (comes_true chosen (ends_of q k).leave)

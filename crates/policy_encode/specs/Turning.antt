@@ -35,18 +35,18 @@ key_of (edits.PacketList list class) = packet_key 3 list.0 class
 key_of (edits.PacketNew face class) = packet_key 4 face.0 class
 
 -- whether the eight numbers of the one are those of the other
-abbrev pub same_key : NumbersOfEdit → NumbersOfEdit → Bool
-same_key k l =
+abbrev pub same_edit_key : NumbersOfEdit → NumbersOfEdit → Bool
+same_edit_key k l =
     ((((((nat_eq k.0 l.0 && nat_eq k.1 l.1) && nat_eq k.2 l.2) && nat_eq k.3 l.3) &&
     nat_eq k.4 l.4) && nat_eq k.5 l.5) && nat_eq k.6 l.6) && nat_eq k.7 l.7
 
 -- whether the two edits are the same
-abbrev pub is_same : Edit → Edit → Bool
-is_same e f = same_key (key_of e) (key_of f)
+abbrev pub is_same_edit : Edit → Edit → Bool
+is_same_edit e f = same_edit_key (key_of e) (key_of f)
 
 -- the place of the edit in the list of edits, if it is there
 abbrev pub place_of : List Edit → Edit → Option ℕ
-place_of list edit = position (is_same edit) list
+place_of list edit = position (is_same_edit edit) list
 
 -- the condition that holds as the answer says, and the other way round where the edit at this place
 -- is chosen

@@ -3,7 +3,7 @@ use Rattle.std.proofs.Common.{◌≡◌, ℕ, zero, suc, ◌+◌, ◌<◌, Bool,
 use Rattle.std.proofs.lemmas.List.{get_or-drop}
 use Rattle.net_model.specs.declared.rows.RouterRow.{RouterRow}
 use Rattle.policy_report.specs.Lines.{after_spaces, line}
-use Rattle.policy_report.specs.Reports.{side_words}
+use Rattle.policy_report.specs.Reports.{router_side_words}
 
 -- a piece of what is still to be put is put
 pub one_more : (target text after piece rest whole : List ℕ) → text ++ whole ≡ target → whole ≡ piece ++ rest → after ≡ text ++ piece → after ++ rest ≡ target
@@ -13,12 +13,12 @@ one_more target text after piece rest whole before split pushed =
 pub drop_next : {A : Type 0} (xs : List A) (i : ℕ) (d : A) → i < length xs → drop i xs ≡ get_or xs i d ∷ drop (i + 1) xs
 drop_next xs i d within = rw add-one (drop-cons xs i d within)
 
-no_flags : (routers : List RouterRow) → side_words routers [] ≡ []
+no_flags : (routers : List RouterRow) → router_side_words routers [] ≡ []
 no_flags [] = refl
 no_flags (router ∷ routers) = refl
 
 side_first : (router : RouterRow) (routers : List RouterRow) (flags : List Bool) →
-    after_spaces (side_words (router ∷ routers) flags) ≡ cond (get_or flags 0 false) (32 ∷ router.name) [] ++ after_spaces (side_words routers (drop 1 flags))
+    after_spaces (router_side_words (router ∷ routers) flags) ≡ cond (get_or flags 0 false) (32 ∷ router.name) [] ++ after_spaces (router_side_words routers (drop 1 flags))
 side_first router routers [] = sym (ap after_spaces (no_flags routers))
 side_first router routers (true ∷ flags) = refl
 side_first router routers (false ∷ flags) = refl
@@ -33,14 +33,14 @@ drop_one i xs = rw add-one (drop_suc i xs)
 
 -- the names of the routers on the side from one on
 pub side_next : (routers : List RouterRow) (side : List Bool) (i : ℕ) (d : RouterRow) → i < length routers →
-    after_spaces (side_words (drop i routers) (drop i side))
-    ≡ cond (get_or side i false) (32 ∷ (get_or routers i d).name) [] ++ after_spaces (side_words (drop (i + 1) routers) (drop (i + 1) side))
+    after_spaces (router_side_words (drop i routers) (drop i side))
+    ≡ cond (get_or side i false) (32 ∷ (get_or routers i d).name) [] ++ after_spaces (router_side_words (drop (i + 1) routers) (drop (i + 1) side))
 side_next routers side i d within =
     let at : get_or (drop i side) 0 false ≡ get_or side i false = get_or-drop i side 0 false ∙ ap (λ k. get_or side k false) (omega arith) in
-    ap (λ t. after_spaces (side_words t (drop i side))) (drop_next routers i d within)
+    ap (λ t. after_spaces (router_side_words t (drop i side))) (drop_next routers i d within)
     ∙ side_first (get_or routers i d) (drop (i + 1) routers) (drop i side)
-    ∙ ap (λ b. cond b (32 ∷ (get_or routers i d).name) [] ++ after_spaces (side_words (drop (i + 1) routers) (drop 1 (drop i side)))) at
-    ∙ ap (λ t. cond (get_or side i false) (32 ∷ (get_or routers i d).name) [] ++ after_spaces (side_words (drop (i + 1) routers) t)) (drop_one i side)
+    ∙ ap (λ b. cond b (32 ∷ (get_or routers i d).name) [] ++ after_spaces (router_side_words (drop (i + 1) routers) (drop 1 (drop i side)))) at
+    ∙ ap (λ t. cond (get_or side i false) (32 ∷ (get_or routers i d).name) [] ++ after_spaces (router_side_words (drop (i + 1) routers) t)) (drop_one i side)
 
 pub spaced-append : (a b : List (List ℕ)) → after_spaces (a ++ b) ≡ after_spaces a ++ after_spaces b
 spaced-append [] b = refl

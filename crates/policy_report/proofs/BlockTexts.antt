@@ -12,7 +12,7 @@ use Rattle.net_model.specs.declared.verdicts.Verdict.{Verdict}
 use Rattle.net_model.specs.declared.verdicts.Verdict.TheVariants.{Closed, Paths, Walk, Denied, Cut, Refused}
 use Rattle.net_model.specs.Validity.{IsValid}
 use Rattle.policy_report.specs.Lines.{line}
-use Rattle.policy_report.specs.Reports.{kind_word, answer_word, class_words, packet_words, link_words, side_words, closed_line, path_line, witness_lines, block_text, blocks_text}
+use Rattle.policy_report.specs.Reports.{kind_word, answer_word, class_words, report_packet_words, link_words, router_side_words, closed_line, path_line, witness_lines, block_text, blocks_text}
 use Rattle.policy_report.specs.Rereading.{AreLinks, CanBeWritten}
 use Rattle.policy_report.proofs.LineWords.{IsSide, closed_text, path_text, cut_words, witness_texts, are_closed_words}
 use Rattle.policy_report.proofs.LineWords.{are_path_words, are_walk_words, are_denied_words, are_cut_words, are_side_line_words, are_refused_words}
@@ -64,17 +64,17 @@ module _ (net : Network) (valid : IsValid net) where
   -- the lines of a witness
   witness_lines_of : (v : Verdict) (rest : List ℕ) → CanBeWritten net v → lines (concat (witness_lines net v) ++ rest) ≡ witness_texts net v ++ lines rest
   witness_lines_of (Closed sides) rest told =
-      item_lines (λ s. IsSide net s.side) (codes "closed") (λ s. class_words s.class ++ side_words net.routers s.side) (λ s h. are_closed_words net valid s) sides rest told.0
+      item_lines (λ s. IsSide net s.side) (codes "closed") (λ s. class_words s.class ++ router_side_words net.routers s.side) (λ s h. are_closed_words net valid s) sides rest told.0
   witness_lines_of (Paths paths) rest told =
       item_lines (λ p. AreLinks net p.links) (codes "path") (λ p. link_words p.links) (are_path_words net valid) paths rest told.0
   witness_lines_of (Walk class path) rest told =
       first_of_text (codes "walk") (class_words class ++ link_words path.links) [] rest (are_walk_words net valid class path told)
   witness_lines_of (Denied class) rest told = first_of_text (codes "denied") (class_words class) [] rest (are_denied_words class)
   witness_lines_of (Cut links side) rest told =
-      first_of_text (codes "cut") (link_words links) (line (codes "side") (side_words net.routers side) ++ []) rest (are_cut_words net valid links told.0) ∙
-      ap (λ ls. joined (cut_words links) ∷ ls) (first_of_text (codes "side") (side_words net.routers side) [] rest (are_side_line_words net valid side))
+      first_of_text (codes "cut") (link_words links) (line (codes "side") (router_side_words net.routers side) ++ []) rest (are_cut_words net valid links told.0) ∙
+      ap (λ ls. joined (cut_words links) ∷ ls) (first_of_text (codes "side") (router_side_words net.routers side) [] rest (are_side_line_words net valid side))
   witness_lines_of (Refused packet link) rest told =
-      first_of_text (codes "acl-on-routed-link") (packet_words packet ++ decimal (link.0 + 1) ∷ []) [] rest
+      first_of_text (codes "acl-on-routed-link") (report_packet_words packet ++ decimal (link.0 + 1) ∷ []) [] rest
       (are_refused_words net valid packet link told)
 
   -- the lines of a block
@@ -109,15 +109,15 @@ module _ (net : Network) (valid : IsValid net) where
 
 -- the text of blocks ends its last line
 witness_ends : (net : Network) (v : Verdict) → EndsLine (concat (witness_lines net v))
-witness_ends net (Closed sides) = all_end (closed_line net) (λ s. line_ends (codes "closed") (class_words s.class ++ side_words net.routers s.side)) sides
+witness_ends net (Closed sides) = all_end (closed_line net) (λ s. line_ends (codes "closed") (class_words s.class ++ router_side_words net.routers s.side)) sides
 witness_ends net (Paths paths) = all_end path_line (λ p. line_ends (codes "path") (link_words p.links)) paths
 witness_ends net (Walk class path) = all_end (λ (ws : List (List ℕ)). line (codes "walk") ws) (line_ends (codes "walk")) ((class_words class ++ link_words path.links) ∷ [])
 witness_ends net (Denied class) = all_end (λ (ws : List (List ℕ)). line (codes "denied") ws) (line_ends (codes "denied")) (class_words class ∷ [])
 witness_ends net (Cut links side) =
-    both_end (line (codes "cut") (link_words links)) (concat (line (codes "side") (side_words net.routers side) ∷ [])) (line_ends (codes "cut") (link_words links))
-    (all_end (λ (ws : List (List ℕ)). line (codes "side") ws) (line_ends (codes "side")) (side_words net.routers side ∷ []))
+    both_end (line (codes "cut") (link_words links)) (concat (line (codes "side") (router_side_words net.routers side) ∷ [])) (line_ends (codes "cut") (link_words links))
+    (all_end (λ (ws : List (List ℕ)). line (codes "side") ws) (line_ends (codes "side")) (router_side_words net.routers side ∷ []))
 witness_ends net (Refused packet link) =
-    all_end (λ (ws : List (List ℕ)). line (codes "acl-on-routed-link") ws) (line_ends (codes "acl-on-routed-link")) ((packet_words packet ++ decimal (link.0 + 1) ∷ []) ∷ [])
+    all_end (λ (ws : List (List ℕ)). line (codes "acl-on-routed-link") ws) (line_ends (codes "acl-on-routed-link")) ((report_packet_words packet ++ decimal (link.0 + 1) ∷ []) ∷ [])
 
 pub blocks_end : (number : ℕ) (net : Network) (policies : List Policy) (vs : List Verdict) → EndsLine (blocks_text number net policies vs)
 blocks_end number net [] vs = nothing_ends

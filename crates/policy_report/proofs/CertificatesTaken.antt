@@ -30,7 +30,7 @@ use Rattle.policy_report.specs.Edits.{edit_text, edit_words, edit_lines, edit_of
 use Rattle.policy_report.specs.Readings.{after_word, count_of, answer_of, answer_shown, line_words}
 use Rattle.policy_report.specs.Reports.{blocks_text}
 use Rattle.policy_report.specs.Rereading.{answers, IsWhole}
-use Rattle.policy_report.specs.Recertifying.{Told, IsCertificate, IsWholeRepair, OnlyCertificatesAreTaken}
+use Rattle.policy_report.specs.Recertifying.{Told, IsCertificateText, IsWholeRepair, OnlyCertificatesAreTaken}
 use Rattle.policy_report.specs.Steps.{Standing, Step, next_line, answered, edited, is_edit, logged}
 use Rattle.policy_report.proofs.CertificatesRead.{two_words, none_words, front_lines, edits_end, two_are_words, none_are_words}
 use Rattle.policy_report.proofs.EditsFound.{has_text}
@@ -214,7 +214,7 @@ answer_told (w ∷ ws) answer e =
 
 module _ (net : Network) (doc : Document) (edits : List Edit) (valid : IsValid net) (addresses : HasAddresses net) (few : length doc.policies ≤ 4294967295) where
   abbrev IsOfSome : List (List ℕ) → Type 0
-  IsOfSome ls = (claim : Claim) × (told : List Told) × IsCertificate net doc edits claim told ls
+  IsOfSome ls = (claim : Claim) × (told : List Told) × IsCertificateText net doc edits claim told ls
 
   repaired_taken : (t : List ℕ) (ls : List (List ℕ)) (price bound : ℕ) → IsAnswer (line_words t) (Repaired price bound) → IsWhole (answers_at net doc edits 2 (stages.Edits 0) ls) →
       IsOfSome (codes "arc-repair 1" ∷ t ∷ ls)

@@ -12,7 +12,7 @@ use Rattle.policy_report.specs.declared.drafts.Asked.{Asked}
 use Rattle.policy_report.specs.declared.drafts.Asked.TheVariants.{Blocked, Through, Reach}
 use Rattle.policy_report.specs.declared.drafts.Block.{Block}
 use Rattle.policy_report.specs.declared.drafts.Heading.{Heading}
-use Rattle.policy_report.specs.Readings.{count_of, asked_by, asked_of, yes_of, no_of, refusal_of, block_of, heading_of}
+use Rattle.policy_report.specs.Readings.{count_of, asked_by, asked_of, yes_of, no_of, refusal_block, block_of, heading_of}
 use Rattle.policy_report.specs.Reports.{kind_word}
 use Rattle.policy_report.specs.Steps.{asks_same, is_of_policy}
 use Rattle.policy_report.proofs.Parts.{count_read, count_told}
@@ -102,7 +102,7 @@ heading_told (a ∷ b ∷ c ∷ d ∷ []) heading e =
 -- which answer begins a block
 pub answered : (asked : Asked) (answer : List ℕ) (count : ℕ) (block : Block) → block_of asked answer count ≡ Some block →
     ((answer ≡ codes "yes") × (yes_of asked count ≡ block)) ⊎
-    (((answer ≡ codes "no") × (no_of asked count ≡ Some block)) ⊎ ((answer ≡ codes "refused") × (refusal_of asked count ≡ Some block)))
+    (((answer ≡ codes "no") × (no_of asked count ≡ Some block)) ⊎ ((answer ≡ codes "refused") × (refusal_block asked count ≡ Some block)))
 answered asked answer count block e =
     choose _ _ _ block e (λ test same. inl (is_text answer _ test, same_Some _ block same)) λ e₁.
     choose _ _ _ block e₁ (λ test same. inr (inl (is_text answer _ test, same))) λ e₂.

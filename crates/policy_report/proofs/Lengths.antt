@@ -24,7 +24,8 @@ use Rattle.net_model.specs.Validity.{IsValid}
 use Rattle.arc_base.specs.NameForms.{IsName}
 use Rattle.policy_report.specs.Lengths.{IsShort, ReportsAreShort}
 use Rattle.policy_report.specs.Lines.{after_spaces, line}
-use Rattle.policy_report.specs.Reports.{kind_word, answer_word, link_words, side_words, class_words, packet_words, closed_line, path_line, refused_line, witness_lines, block_text, blocks_text}
+use Rattle.policy_report.specs.Reports.{kind_word, answer_word, link_words, router_side_words, class_words, report_packet_words, closed_line, path_line, refused_line, witness_lines, block_text}
+use Rattle.policy_report.specs.Reports.{blocks_text}
 use Rattle.policy_report.specs.ServiceWords.{service_text, service_word, range_word, is_whole, service_words, range_words}
 use Rattle.policy_report.specs.Rereading.{AreLinks, CanBeWritten, IsReadable}
 use Rattle.policy_report.proofs.BlockTexts.{few_lines}
@@ -48,11 +49,11 @@ links_length n (l ∷ links) few h =
       links_length n links few (All-tail (λ l. l.0 < n) l links h),
     )
 
-sides_length : (routers : List RouterRow) (side : List Bool) → All (λ r. IsName r.name) routers → length (after_spaces (side_words routers side)) ≤ 65 * length routers
+sides_length : (routers : List RouterRow) (side : List Bool) → All (λ r. IsName r.name) routers → length (after_spaces (router_side_words routers side)) ≤ 65 * length routers
 sides_length [] side h = omega arith
 sides_length (r ∷ routers) [] h = omega arith
 sides_length (r ∷ routers) (true ∷ side) h =
-    omega (arith, word_length r.name (side_words routers side), (All-head (λ s. IsName s.name) r routers h).few, sides_length routers side (All-tail (λ s. IsName s.name) r routers h))
+    omega (arith, word_length r.name (router_side_words routers side), (All-head (λ s. IsName s.name) r routers h).few, sides_length routers side (All-tail (λ s. IsName s.name) r routers h))
 sides_length (r ∷ routers) (false ∷ side) h = omega (arith, sides_length routers side (All-tail (λ s. IsName s.name) r routers h))
 
 byte_length : (n : ℕ) → n < 256 → length (decimal n) ≤ 3
@@ -153,8 +154,8 @@ module _ (net : Network) (valid : IsValid net) where
       let few : length net.routers ≤ 256 = valid.few_routers in
       omega (
         arith,
-        line_length (codes "closed") (class_words shown.class ++ side_words net.routers shown.side),
-        class_length shown.class (side_words net.routers shown.side),
+        line_length (codes "closed") (class_words shown.class ++ router_side_words net.routers shown.side),
+        class_length shown.class (router_side_words net.routers shown.side),
         sides_length net.routers shown.side valid.router_names,
       )
 
@@ -200,10 +201,10 @@ module _ (net : Network) (valid : IsValid net) where
       let few : length net.routers ≤ 256 = valid.few_routers in
       omega (
         arith,
-        length-append (line (codes "cut") (link_words links)) (line (codes "side") (side_words net.routers side) ++ []),
-        length-append (line (codes "side") (side_words net.routers side)) [],
+        length-append (line (codes "cut") (link_words links)) (line (codes "side") (router_side_words net.routers side) ++ []),
+        length-append (line (codes "side") (router_side_words net.routers side)) [],
         line_length (codes "cut") (link_words links),
-        line_length (codes "side") (side_words net.routers side),
+        line_length (codes "side") (router_side_words net.routers side),
         links_length (length net.links) links valid.few_links told.0,
         sides_length net.routers side valid.router_names,
       )
@@ -212,7 +213,7 @@ module _ (net : Network) (valid : IsValid net) where
       omega (
         arith,
         length-append (refused_line packet link) [],
-        line_length (codes "acl-on-routed-link") (packet_words packet ++ decimal (link.0 + 1) ∷ []),
+        line_length (codes "acl-on-routed-link") (report_packet_words packet ++ decimal (link.0 + 1) ∷ []),
         word_length (address_text packet.from) (address_text packet.to ∷ (service_words packet.service ++ decimal (link.0 + 1) ∷ [])),
         word_length (address_text packet.to) (service_words packet.service ++ decimal (link.0 + 1) ∷ []),
         point_length packet.service (decimal (link.0 + 1) ∷ []) told.1.2,

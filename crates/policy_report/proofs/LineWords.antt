@@ -9,7 +9,7 @@ use Rattle.net_model.specs.declared.verdicts.LinkPath.{LinkPath}
 use Rattle.net_model.specs.declared.verdicts.Verdict.{Verdict}
 use Rattle.net_model.specs.declared.verdicts.Verdict.TheVariants.{Closed, Paths, Walk, Denied, Cut, Refused}
 use Rattle.net_model.specs.Validity.{IsValid}
-use Rattle.policy_report.specs.Reports.{class_words, packet_words, link_words, side_words}
+use Rattle.policy_report.specs.Reports.{class_words, report_packet_words, link_words, router_side_words}
 use Rattle.policy_report.specs.Rereading.{AreLinks}
 use Rattle.policy_report.proofs.ServiceParts.{are_class_words, are_packet_words}
 use Rattle.policy_report.proofs.Spaced.{AreWords, words_append, joined}
@@ -17,7 +17,7 @@ use Rattle.policy_report.proofs.WordBytes.{word, decimal_word, links_words, side
 
 -- a side, a path, a walk, a class that is denied, a cut, its side, and a packet that is denied
 abbrev pub closed_words : Network → ClassSide → List (List ℕ)
-closed_words net shown = codes "closed" ∷ (class_words shown.class ++ side_words net.routers shown.side)
+closed_words net shown = codes "closed" ∷ (class_words shown.class ++ router_side_words net.routers shown.side)
 
 abbrev pub path_words : LinkPath → List (List ℕ)
 path_words path = codes "path" ∷ link_words path.links
@@ -32,10 +32,10 @@ abbrev pub cut_words : List Link → List (List ℕ)
 cut_words links = codes "cut" ∷ link_words links
 
 abbrev pub side_line_words : Network → List Bool → List (List ℕ)
-side_line_words net side = codes "side" ∷ side_words net.routers side
+side_line_words net side = codes "side" ∷ router_side_words net.routers side
 
 abbrev pub refused_words : Packet → Link → List (List ℕ)
-refused_words packet link = codes "acl-on-routed-link" ∷ (packet_words packet ++ decimal (link.0 + 1) ∷ [])
+refused_words packet link = codes "acl-on-routed-link" ∷ (report_packet_words packet ++ decimal (link.0 + 1) ∷ [])
 
 -- the lines of a side and of a path
 abbrev pub closed_text : Network → ClassSide → List ℕ
@@ -65,7 +65,7 @@ FitsRefused net r = (r.1.0 < length net.links) × ((r.0.from < 2 ^ 32) × (r.0.t
 module _ (net : Network) (valid : IsValid net) where
   pub are_closed_words : (shown : ClassSide) → AreWords (closed_words net shown)
   are_closed_words shown =
-      (word _ refl, words_append (class_words shown.class) (side_words net.routers shown.side) (are_class_words shown.class) (sides_words net.routers shown.side valid.router_names))
+      (word _ refl, words_append (class_words shown.class) (router_side_words net.routers shown.side) (are_class_words shown.class) (sides_words net.routers shown.side valid.router_names))
 
   pub are_path_words : (path : LinkPath) → AreLinks net path.links → AreWords (path_words path)
   are_path_words path h = (word _ refl, links_words (length net.links) path.links valid.few_links h)
@@ -82,7 +82,7 @@ module _ (net : Network) (valid : IsValid net) where
   pub are_refused_words : (packet : Packet) (link : Link) → FitsRefused net (packet, link) → AreWords (refused_words packet link)
   are_refused_words packet link h =
       let few : length net.links ≤ 1024 = valid.few_links in
-      (word _ refl, words_append (packet_words packet) (decimal (link.0 + 1) ∷ []) (are_packet_words packet h.1.0 h.1.1 h.1.2) (decimal_word (link.0 + 1) (omega (arith, h.0)), tt))
+      (word _ refl, words_append (report_packet_words packet) (decimal (link.0 + 1) ∷ []) (are_packet_words packet h.1.0 h.1.1 h.1.2) (decimal_word (link.0 + 1) (omega (arith, h.0)), tt))
 
 pub are_denied_words : (class : Class) → AreWords (denied_words class)
 are_denied_words class = (word _ refl, are_class_words class)

@@ -19,7 +19,7 @@ use Rattle.net_model.specs.declared.services.Service.{Service}
 use Rattle.net_model.specs.Services.{whole_service}
 use Rattle.arc_base.specs.NameForms.{IsName}
 use Rattle.policy_report.specs.Readings.{services_at, class_at, service_at, packet_at}
-use Rattle.policy_report.specs.Reports.{class_words, packet_words, link_words, side_words}
+use Rattle.policy_report.specs.Reports.{class_words, report_packet_words, link_words, router_side_words}
 use Rattle.policy_report.specs.ServiceWords.{service_text, service_word, range_word, is_whole, service_words, range_words, service_named, range_named}
 use Rattle.policy_report.proofs.Parts.{address_told}
 use Rattle.policy_report.proofs.SameServices.{whole_is}
@@ -58,7 +58,7 @@ are_range_words s = by (is_whole s)
 pub are_class_words : (class : Class) → AreWords (class_words class)
 are_class_words class = (prefix_word class.from, (prefix_word class.to, are_range_words class.service))
 
-pub are_packet_words : (packet : Packet) → packet.from < 2 ^ 32 → packet.to < 2 ^ 32 → packet.service < 2 ^ 24 → AreWords (packet_words packet)
+pub are_packet_words : (packet : Packet) → packet.from < 2 ^ 32 → packet.to < 2 ^ 32 → packet.service < 2 ^ 24 → AreWords (report_packet_words packet)
 are_packet_words packet from to service = (address_word packet.from from, (address_word packet.to to, are_service_words packet.service service))
 
 -- the first of the words, where there is one, names no services
@@ -72,7 +72,7 @@ links_name_none n (l ∷ links) few h =
     let within = All-head (λ l. l.0 < n) l links h in
     no_range (decimal (l.0 + 1)) (number_lacks (l.0 + 1) (omega arith))
 
-pub sides_name_none : (routers : List RouterRow) (side : List Bool) → All (λ r. IsName r.name) routers → NamesNone (side_words routers side)
+pub sides_name_none : (routers : List RouterRow) (side : List Bool) → All (λ r. IsName r.name) routers → NamesNone (router_side_words routers side)
 sides_name_none [] side h = tt
 sides_name_none (r ∷ routers) [] h = tt
 sides_name_none (r ∷ routers) (true ∷ side) h = no_range r.name (name_lacks r.name (All-head (λ s. IsName s.name) r routers h))
@@ -151,7 +151,7 @@ one_service_told (w ∷ ws) = by (service_named w) refl
 
 -- a packet, and words after it
 pub packet_read : (packet : Packet) (rest : List (List ℕ)) → packet.from < 2 ^ 32 → packet.to < 2 ^ 32 → packet.service < 2 ^ 24 → NamesNoService rest →
-    packet_at (packet_words packet ++ rest) ≡ Some (packet, rest)
+    packet_at (report_packet_words packet ++ rest) ≡ Some (packet, rest)
 packet_read packet [] from_small to_small small none = absurd none
 packet_read packet (w ∷ ws) from_small to_small small none =
     let whole : ℕ → ℕ → ℕ × List (List ℕ) → Option (Packet × List (List ℕ)) = λ f t r. Some (record { from = f; to = t; service = r.0 }, r.1) in
@@ -161,7 +161,7 @@ packet_read packet (w ∷ ws) from_small to_small small none =
     ap (whole packet.from packet.to) (one_service_read packet.service w ws small none)
 
 pub packet_told : (ws : List (List ℕ)) (found : Packet × List (List ℕ)) → packet_at ws ≡ Some found →
-    (ws ≡ packet_words found.0 ++ found.1) × ((found.0.from < 2 ^ 32) × (found.0.to < 2 ^ 32) × (found.0.service < 2 ^ 24))
+    (ws ≡ report_packet_words found.0 ++ found.1) × ((found.0.from < 2 ^ 32) × (found.0.to < 2 ^ 32) × (found.0.service < 2 ^ 24))
 packet_told [] found e = absurd (none-some found e)
 packet_told (a ∷ []) found e = absurd (none-some found e)
 packet_told (a ∷ b ∷ ws) found e =
@@ -172,6 +172,6 @@ packet_told (a ∷ b ∷ ws) found e =
     let (second, to_small) = address_told b to to_is in
     let (services, small) = one_service_told ws in (
       ap₂ (λ u v. u ∷ v ∷ ws) first second ∙ ap (λ vs. address_text from ∷ address_text to ∷ vs) services ∙
-          ap (λ (f : Packet × List (List ℕ)). packet_words f.0 ++ f.1) same,
+          ap (λ (f : Packet × List (List ℕ)). report_packet_words f.0 ++ f.1) same,
       subst (λ (f : Packet × List (List ℕ)). (f.0.from < 2 ^ 32) × (f.0.to < 2 ^ 32) × (f.0.service < 2 ^ 24)) same (from_small, to_small, small),
     )

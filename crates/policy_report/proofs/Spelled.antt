@@ -14,7 +14,7 @@ use Rattle.net_model.specs.declared.verdicts.LinkPath.{LinkPath}
 use Rattle.net_model.specs.Validity.{IsValid}
 use Rattle.policy_report.specs.Readings.{after_word, all_links, class_at, side_of, link_of, side_shown, closed_of, path_of, walk_shown}
 use Rattle.policy_report.specs.Readings.{walk_of, class_shown, denied_of, cut_of, side_line_of, packet_at, lone_link, packet_shown, refused_of}
-use Rattle.policy_report.specs.Reports.{class_words, packet_words, link_words, side_words}
+use Rattle.policy_report.specs.Reports.{class_words, report_packet_words, link_words, router_side_words}
 use Rattle.policy_report.specs.Rereading.{AreLinks}
 use Rattle.policy_report.proofs.LineWords.{closed_words, path_words, walk_words, denied_words, cut_words, side_line_words, refused_words, IsSide, FitsRefused}
 use Rattle.policy_report.proofs.Parts.{links_read, links_told, link_read, link_told}
@@ -41,7 +41,7 @@ module _ (net : Network) (valid : IsValid net) where
   pub closed_read : (shown : ClassSide) → IsSide net shown.side → closed_of net (closed_words net shown) ≡ Some shown
   closed_read shown size =
       let f : Class × List (List ℕ) → Option ClassSide = λ found. option_and_then (λ side. Some (record { class = found.0; side = side })) (side_of net.routers found.1) in
-      ap (option_and_then f) (class_read shown.class (side_words net.routers shown.side) (sides_name_none net.routers shown.side valid.router_names)) ∙
+      ap (option_and_then f) (class_read shown.class (router_side_words net.routers shown.side) (sides_name_none net.routers shown.side valid.router_names)) ∙
       ap (option_and_then (λ side. Some (record { class = shown.class; side = side }))) (side_read net.routers shown.side valid.routers_named_apart size)
 
   pub path_read : (path : LinkPath) → AreLinks net path.links → path_of net (path_words path) ≡ Some path
@@ -79,13 +79,13 @@ denied_read class =
 -- what is read is written so
 module _ (net : Network) where
   side_shown_told : (ws : List (List ℕ)) (shown : ClassSide) → side_shown net ws ≡ Some shown →
-      (ws ≡ class_words shown.class ++ side_words net.routers shown.side) × IsSide net shown.side
+      (ws ≡ class_words shown.class ++ router_side_words net.routers shown.side) × IsSide net shown.side
   side_shown_told ws shown e =
       and_then_some _ (class_at ws) shown e λ found found_is e₁.
       and_then_some _ (side_of net.routers found.1) shown e₁ λ side side_is e₂.
       let same = same_Some _ shown e₂ in
       let (told, size) = side_told net.routers found.1 side side_is in (
-        class_told ws found found_is ∙ ap (λ vs. class_words found.0 ++ vs) told ∙ ap (λ (s : ClassSide). class_words s.class ++ side_words net.routers s.side) same,
+        class_told ws found found_is ∙ ap (λ vs. class_words found.0 ++ vs) told ∙ ap (λ (s : ClassSide). class_words s.class ++ router_side_words net.routers s.side) same,
         ap (λ (s : ClassSide). length s.side) (sym same) ∙ size,
       )
 
@@ -132,14 +132,14 @@ module _ (net : Network) where
       let (told, size) = side_told net.routers rest side side_is in
       (after_told _ ws rest rest_is ∙ ap (λ vs. codes "side" ∷ vs) told, size)
 
-  packet_shown_told : (ws : List (List ℕ)) (r : Packet × Link) → packet_shown net ws ≡ Some r → (ws ≡ packet_words r.0 ++ decimal (r.1.0 + 1) ∷ []) × FitsRefused net r
+  packet_shown_told : (ws : List (List ℕ)) (r : Packet × Link) → packet_shown net ws ≡ Some r → (ws ≡ report_packet_words r.0 ++ decimal (r.1.0 + 1) ∷ []) × FitsRefused net r
   packet_shown_told ws r e =
       and_then_some _ (packet_at ws) r e λ found found_is e₁.
       and_then_some _ (lone_link (length net.links) found.1) r e₁ λ link link_is e₂.
       let same = same_Some _ r e₂ in
       let (words_are, fits) = packet_told ws found found_is in
       let (number, within) = lone_link_told (length net.links) found.1 link link_is in (
-        words_are ∙ ap (λ vs. packet_words found.0 ++ vs) number ∙ ap (λ (q : Packet × Link). packet_words q.0 ++ decimal (q.1.0 + 1) ∷ []) same,
+        words_are ∙ ap (λ vs. report_packet_words found.0 ++ vs) number ∙ ap (λ (q : Packet × Link). report_packet_words q.0 ++ decimal (q.1.0 + 1) ∷ []) same,
         subst (FitsRefused net) same (within, fits),
       )
 

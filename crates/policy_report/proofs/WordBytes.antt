@@ -12,7 +12,7 @@ use Rattle.arc_base.specs.PrefixText.{address_text, prefix_text}
 use Rattle.arc_base.proofs.AddressTexts.{IsDotted-address_text}
 use Rattle.arc_base.specs.NameForms.{IsName, is_name_byte}
 use Rattle.net_model.specs.declared.rows.RouterRow.{RouterRow}
-use Rattle.policy_report.specs.Reports.{link_words, side_words}
+use Rattle.policy_report.specs.Reports.{link_words, router_side_words}
 use Rattle.policy_report.proofs.Spaced.{IsWord, AreWords}
 
 -- a test of the bytes of a word that is written out
@@ -66,7 +66,7 @@ links_words n (l ∷ links) few h =
     let within = All-head (λ l. l.0 < n) l links h in
     (decimal_word (l.0 + 1) (omega arith), links_words n links few (All-tail (λ l. l.0 < n) l links h))
 
-pub sides_words : (routers : List RouterRow) (side : List Bool) → All (λ r. IsName r.name) routers → AreWords (side_words routers side)
+pub sides_words : (routers : List RouterRow) (side : List Bool) → All (λ r. IsName r.name) routers → AreWords (router_side_words routers side)
 sides_words [] side h = tt
 sides_words (r ∷ routers) [] h = tt
 sides_words (r ∷ routers) (true ∷ side) h =

@@ -201,16 +201,16 @@ no_of Reach count =
 no_of asked count = if count == 1 then Some (Open drafts.Walk) else None
 
 -- a refusal: the packet with its link
-abbrev pub refusal_of : Asked → ℕ → Option Block
-refusal_of Reach count = if count == 1 then Some (Open drafts.Refused) else None
-refusal_of asked count = None
+abbrev pub refusal_block : Asked → ℕ → Option Block
+refusal_block Reach count = if count == 1 then Some (Open drafts.Refused) else None
+refusal_block asked count = None
 
 -- what an answer with `count` lines begins, if what is asked has such an answer
 abbrev pub block_of : Asked → List ℕ → ℕ → Option Block
 block_of asked answer count =
     if bytes_eq answer (codes "yes") then Some (yes_of asked count)
     else if bytes_eq answer (codes "no") then no_of asked count
-    else if bytes_eq answer (codes "refused") then refusal_of asked count
+    else if bytes_eq answer (codes "refused") then refusal_block asked count
     else None
 
 -- `NUMBER KIND ANSWER COUNT`

@@ -81,7 +81,8 @@ IsToldClaim net doc all (claims.Repaired price bound chosen verdicts) =
 IsToldClaim net doc all (claims.NoRepair bound) = bound ≤ 4294967295
 
 -- the lines are those of a certificate of the claim, with a proof log whose lines write these steps
-pub record IsCertificate (net : Network) (doc : Document) (all : List edits.Edit) (claim : Claim)
+pub record IsCertificateText (net : Network) (doc : Document) (all : List edits.Edit)
+    (claim : Claim)
     (told : List Told) (ls : List (List ℕ)) : Type 0 where
   pub is_told : IsToldClaim net doc all claim
   pub log : List (List ℕ)
@@ -94,7 +95,7 @@ abbrev pub CertificatesAreWritten : Type 0
 CertificatesAreWritten =
     (net : Network) (doc : Document) (all : List edits.Edit) (claim : Claim) (log : Log) →
     IsToldClaim net doc all claim → All HasLine log.steps →
-    IsCertificate net doc all claim (map Some log.steps)
+    IsCertificateText net doc all claim (map Some log.steps)
     (lines (certificate_text net doc all claim log))
 
 -- the lines of a certificate are read again
@@ -103,7 +104,7 @@ CertificatesAreReadAgain =
     (net : Network) (doc : Document) (all : List edits.Edit) (claim : Claim) (told : List Told)
     (ls : List (List ℕ)) →
     IsValid net → HasAddresses net → length doc.policies ≤ 4294967295 → AreToldApart net all →
-    IsCertificate net doc all claim told ls →
+    IsCertificateText net doc all claim told ls →
     answers net doc all start ls ≡ certificate_answers net claim told
 
 -- only the lines of a certificate are taken
@@ -112,7 +113,7 @@ OnlyCertificatesAreTaken =
     (net : Network) (doc : Document) (all : List edits.Edit) (ls : List (List ℕ)) → IsValid net →
     HasAddresses net → length doc.policies ≤ 4294967295 →
     IsWholeRepair (answers net doc all start ls) →
-    (claim : Claim) × (told : List Told) × IsCertificate net doc all claim told ls
+    (claim : Claim) × (told : List Told) × IsCertificateText net doc all claim told ls
 
 -- where the budget was used up the second line is refused, since it claims nothing
 abbrev pub BudgetsAreRefused : Type 0

@@ -41,25 +41,25 @@ abbrev pub link_words : List Link → List (List ℕ)
 link_words links = map (λ link. decimal (link.0 + 1)) links
 
 -- the names of the routers on the side, in order
-abbrev pub side_words : List RouterRow → List Bool → List (List ℕ)
-side_words [] flags = []
-side_words (router ∷ routers) [] = []
-side_words (router ∷ routers) (true ∷ flags) = router.name ∷ side_words routers flags
-side_words (router ∷ routers) (false ∷ flags) = side_words routers flags
+abbrev pub router_side_words : List RouterRow → List Bool → List (List ℕ)
+router_side_words [] flags = []
+router_side_words (router ∷ routers) [] = []
+router_side_words (router ∷ routers) (true ∷ flags) = router.name ∷ router_side_words routers flags
+router_side_words (router ∷ routers) (false ∷ flags) = router_side_words routers flags
 
 -- the two prefixes of a class, and its services where these are not all
 abbrev pub class_words : Class → List (List ℕ)
 class_words class = prefix_text class.from ∷ prefix_text class.to ∷ range_words class.service
 
 -- the two addresses of a packet, and its service where this is not 0
-abbrev pub packet_words : Packet → List (List ℕ)
-packet_words packet =
+abbrev pub report_packet_words : Packet → List (List ℕ)
+report_packet_words packet =
     address_text packet.from ∷ address_text packet.to ∷ service_words packet.service
 
 -- a class and the routers that its packets may get to
 abbrev pub closed_line : Network → ClassSide → List ℕ
 closed_line net shown =
-    line (codes "closed") (class_words shown.class ++ side_words net.routers shown.side)
+    line (codes "closed") (class_words shown.class ++ router_side_words net.routers shown.side)
 
 -- the links of a path
 abbrev pub path_line : LinkPath → List ℕ
@@ -68,7 +68,7 @@ path_line path = line (codes "path") (link_words path.links)
 -- a packet, and the link on which it is denied
 abbrev pub refused_line : Packet → Link → List ℕ
 refused_line packet link =
-    line (codes "acl-on-routed-link") (packet_words packet ++ decimal (link.0 + 1) ∷ [])
+    line (codes "acl-on-routed-link") (report_packet_words packet ++ decimal (link.0 + 1) ∷ [])
 
 -- the lines of the witness
 abbrev pub witness_lines : Network → Verdict → List (List ℕ)
@@ -78,7 +78,8 @@ witness_lines net (Walk class path) =
     line (codes "walk") (class_words class ++ link_words path.links) ∷ []
 witness_lines net (Denied class) = line (codes "denied") (class_words class) ∷ []
 witness_lines net (Cut links side) =
-    line (codes "cut") (link_words links) ∷ line (codes "side") (side_words net.routers side) ∷ []
+    line (codes "cut") (link_words links) ∷
+    line (codes "side") (router_side_words net.routers side) ∷ []
 witness_lines net (Refused packet link) = refused_line packet link ∷ []
 
 -- the first line of a policy's block: its number, what it asks, the answer and how many lines

@@ -1,6 +1,7 @@
 //! The lines of witnesses.
 ghost use Rattle.policy_report.specs.Lines.{line};
-ghost use Rattle.policy_report.specs.Reports.{class_words, link_words, side_words, closed_line};
+ghost use Rattle.policy_report.specs.Reports.{class_words, link_words, router_side_words};
+ghost use Rattle.policy_report.specs.Reports.{closed_line};
 ghost use Rattle.policy_report.specs.Reports.{path_line, refused_line};
 ghost use Rattle.std.specs.Prelude.{◌≡◌, ◌++◌, codes, OnOk};
 
@@ -81,7 +82,7 @@ pub fn push_side_line(
     side: &[bool],
 ) -> Result<(), Memory>
     ensures { OnOk result (text.new.items
-        ≡ text.old.items ++ line (codes "side") (side_words routers.now side.now)) }
+        ≡ text.old.items ++ line (codes "side") (router_side_words routers.now side.now)) }
 {
     text.extend_from_slice(b"side")?;
     push_side(text, routers, side)?;

@@ -1,7 +1,8 @@
 //! Words of a line, appended to a text with a space before each.
 ghost use Rattle.arc_base.specs.PrefixText.{address_text, prefix_text};
 ghost use Rattle.policy_report.specs.Lines.{after_spaces};
-ghost use Rattle.policy_report.specs.Reports.{class_words, packet_words, link_words, side_words};
+ghost use Rattle.policy_report.specs.Reports.{class_words, report_packet_words, link_words};
+ghost use Rattle.policy_report.specs.Reports.{router_side_words};
 ghost use Rattle.std.specs.Prelude.{◌≡◌, ◌++◌, [], ◌∷◌, cond, decimal, false, slice_index_or, OnOk};
 
 use crate::services::{push_class_services, push_packet_service};
@@ -61,7 +62,7 @@ pub fn push_class(alloc: Global, text: &mut Vec<u8>, class: &Class) -> Result<()
 /// The two addresses of a packet, and its service if it is not 0.
 pub(crate) fn push_packet(alloc: Global, text: &mut Vec<u8>, packet: &Packet) -> Result<(), Memory>
     ensures { OnOk result
-        (text.new.items ≡ text.old.items ++ after_spaces (packet_words packet.now)) }
+        (text.new.items ≡ text.old.items ++ after_spaces (report_packet_words packet.now)) }
 {
     push_address_word(alloc, text, packet.from)?;
     push_address_word(alloc, text, packet.to)?;
@@ -85,7 +86,7 @@ pub(crate) fn push_side(
     side: &[bool],
 ) -> Result<(), Memory>
     ensures { OnOk result
-        (text.new.items ≡ text.old.items ++ after_spaces (side_words routers.now side.now)) }
+        (text.new.items ≡ text.old.items ++ after_spaces (router_side_words routers.now side.now)) }
 {
     for (place, router) in routers.iter().enumerate() {
         push_if(text, router.name.bytes(), is_on(side, place))?;

@@ -23,8 +23,8 @@ pub(crate) struct Arrangement {
 }
 
 impl Arrangement {
-    /// That of a repair formula of so many clauses, whose first edit has no block, and the other
-    /// ones have two clauses for each number.
+    /// The arrangement of a repair formula of this many clauses, whose first edit has no block,
+    /// while the others have two clauses for each number.
     pub fn of(clauses: u32, edits: u32, numbers: u32) -> Arrangement {
         let blocks = u64::from(edits).saturating_sub(1);
         let size = 2 * u64::from(numbers);

@@ -15,8 +15,8 @@ use Rattle.proof_log.specs.declared.steps.Step.TheVariants.{Add, Drop, Bound}
 use Rattle.proof_check.specs.declared.faults.StepFault.{StepFault}
 use Rattle.proof_check.specs.declared.faults.StepFault.TheVariants.{IdNotRising, BoundTooLow, BoundTooHigh}
 use Rattle.proof_check.specs.Propagation.{chain_fault, is_among}
-use Rattle.proof_check.specs.Knowledge.{Knowledge, start, step_fault, after, is_empty, formula_clause, with_clause, without_clauses, bound_clause, bound_fault, is_too_low}
-use Rattle.proof_check.specs.Logs.{IsAccepted, IsRefuting, KeepsBound, KeepsBounds, adds_empty}
+use Rattle.proof_check.specs.Knowledge.{Knowledge, start, step_fault, after, is_empty_clause, formula_clause, with_clause, without_clauses, bound_clause, bound_fault, is_too_low}
+use Rattle.proof_check.specs.Logs.{IsAccepted, IsRefuting, StepKeepsBound, KeepsBounds, adds_empty}
 use Rattle.proof_check.proofs.Soundness.{LiveTrue, clause_sound}
 
 -- no step changes the literals of the prices
@@ -79,7 +79,7 @@ module _ (a : ℕ → Bool) where
   bound_value (Some t) top e h = or_true (value a (negated t)) h
 
   -- what is live after an accepted step is true
-  step_live : (k : Knowledge) (s : Step) → LiveTrue a k.clause → step_fault k s ≡ None → KeepsBound a k.tops s → LiveTrue a (after k s).clause
+  step_live : (k : Knowledge) (s : Step) → LiveTrue a k.clause → step_fault k s ≡ None → StepKeepsBound a k.tops s → LiveTrue a (after k s).clause
   step_live k (Add id lits hints) live none keeps =
       with_live k.clause id lits live (clause_sound a k.clause lits hints live (risen (nat_lt k.last id) (chain_fault k.clause (is_among lits) 0 hints) IdNotRising none))
   step_live k (Drop ids) live none keeps = without_live k.clause ids live
@@ -88,7 +88,7 @@ module _ (a : ℕ → Bool) where
       with_live k.clause id (bound_clause k.tops price) live
       (bound_value (slice_get k.tops price) (get_or k.tops price (record { code = 0 })) (slice_get-get_or k.tops price (record { code = 0 }) within) keeps)
 
-  empty_false : (lits : List Lit) → is_empty lits ≡ true → clause_value a lits ≡ true → ⊥
+  empty_false : (lits : List Lit) → is_empty_clause lits ≡ true → clause_value a lits ≡ true → ⊥
   empty_false [] e h = false≢true h
   empty_false (l ∷ ls) e h = false≢true e
 

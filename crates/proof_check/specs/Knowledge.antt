@@ -74,9 +74,9 @@ step_fault k (Add id lits hints) = rising k.last id (chain_fault k.clause (is_am
 step_fault k (Drop ids) = option_map UnknownId (position (λ id. is_none (k.clause id)) ids)
 step_fault k (Bound id price) = rising k.last id (bound_fault k.least k.tops price)
 
-abbrev pub is_empty : List Lit → Bool
-is_empty [] = true
-is_empty (l ∷ ls) = false
+abbrev pub is_empty_clause : List Lit → Bool
+is_empty_clause [] = true
+is_empty_clause (l ∷ ls) = false
 
 -- what is known with one clause more, under the greatest id
 abbrev pub learn : Knowledge → ℕ → List Lit → Knowledge
@@ -84,7 +84,8 @@ learn k id lits = record k { clause = with_clause k.clause id lits; last = id }
 
 -- what is known after an accepted step
 abbrev pub after : Knowledge → Step → Knowledge
-after k (Add id lits hints) = record (learn k id lits) { refuted = k.refuted || is_empty lits }
+after k (Add id lits hints) =
+    record (learn k id lits) { refuted = k.refuted || is_empty_clause lits }
 after k (Drop ids) = record k { clause = without_clauses k.clause ids }
 after k (Bound id price) = learn k id (bound_clause k.tops price)
 

@@ -8,7 +8,7 @@ use Rattle.cnf_types.specs.Literals.{negated}
 use Rattle.cnf_types.specs.Formulas.{value, Satisfies}
 use Rattle.proof_log.specs.declared.steps.Step.{Step}
 use Rattle.proof_log.specs.declared.steps.Step.TheVariants.{Add, Drop, Bound}
-use Rattle.proof_check.specs.Knowledge.{Knowledge, start, step_fault, after, is_empty}
+use Rattle.proof_check.specs.Knowledge.{Knowledge, start, step_fault, after, is_empty_clause}
 
 -- what is known after the steps of a log
 abbrev pub after_all : Knowledge → List Step → Knowledge
@@ -21,7 +21,7 @@ IsAccepted k (s ∷ steps) = (step_fault k s ≡ None) × IsAccepted (after k s)
 
 -- the step adds the empty clause
 abbrev pub adds_empty : Step → Bool
-adds_empty (Add id lits hints) = is_empty lits
+adds_empty (Add id lits hints) = is_empty_clause lits
 adds_empty (Drop ids) = false
 adds_empty (Bound id price) = false
 
@@ -31,17 +31,17 @@ IsRefuting steps = IsTrue (list_any adds_empty steps)
 
 -- the assignment keeps the price to the bound, if the step is one: the literal "the price is at
 -- least W + 1" is false
-abbrev pub KeepsBound : (ℕ → Bool) → List Lit → Step → Type 0
-KeepsBound assignment tops (Add id lits hints) = Unit {0}
-KeepsBound assignment tops (Drop ids) = Unit {0}
-KeepsBound assignment tops (Bound id price) =
+abbrev pub StepKeepsBound : (ℕ → Bool) → List Lit → Step → Type 0
+StepKeepsBound assignment tops (Add id lits hints) = Unit {0}
+StepKeepsBound assignment tops (Drop ids) = Unit {0}
+StepKeepsBound assignment tops (Bound id price) =
     IfSome (slice_get tops price) (λ top. IsTrue (value assignment (negated top)))
 
 -- it keeps to all bounds of a log
 abbrev pub KeepsBounds : (ℕ → Bool) → List Lit → List Step → Type 0
 KeepsBounds assignment tops [] = Unit {0}
 KeepsBounds assignment tops (s ∷ steps) =
-    KeepsBound assignment tops s × KeepsBounds assignment tops steps
+    StepKeepsBound assignment tops s × KeepsBounds assignment tops steps
 
 -- an accepted log that is refuting shows that no assignment satisfies the formula and keeps to the
 -- bounds

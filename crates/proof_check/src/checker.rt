@@ -45,7 +45,7 @@ fn read_literals(lits: &mut Vec<Lit>, numbers: &[i64]) -> Result<(), Memory>
 }
 
 impl Checker {
-    ghost use Rattle.cnf_types.specs.Dimacs.{is_zero, literal_of, reading, IsFaultOf};
+    ghost use Rattle.cnf_types.specs.Dimacs.{is_zero, literal_of, reading, IsFaultOfCnf};
     ghost use Rattle.cnf_types.specs.Formulas.{Satisfies};
     ghost use Rattle.proof_check.specs.Knowledge.{start, step_fault, after, IsFirst};
     ghost use Rattle.proof_check.specs.Logs.{after_all, IsAccepted, IsRefuting, KeepsBounds};
@@ -108,7 +108,7 @@ impl Checker {
         requires { length bytes.now < 2 ^ 32 }
         ensures formula { IfOk result (λ checker. IsOkAnd (reading bytes.now) (λ f.
             known checker ≡ start f least tops.now)) }
-        ensures fault { IfErr result (IsFaultOf bytes.now) }
+        ensures fault { IfErr result (IsFaultOfCnf bytes.now) }
     {
         let rows = Rows::make(alloc)?;
         let (vars, rows) = read_clauses(alloc, bytes, rows)?;

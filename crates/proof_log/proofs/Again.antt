@@ -15,7 +15,7 @@ use Rattle.proof_log.specs.declared.steps.Step.{Step}
 use Rattle.proof_log.specs.declared.steps.Step.TheVariants.{Add, Drop, Bound}
 use Rattle.proof_log.specs.declared.steps.Log.{Log}
 use Rattle.proof_log.specs.declared.numbers.Sign.TheVariants.{Adds, Drops, Bounds}
-use Rattle.proof_log.specs.Reading.{reading, log_number, numbers, is_bad, sign, sign_of, number_words, unless_sign, formed, add_of, drop_of, is_positive as positive_number}
+use Rattle.proof_log.specs.Reading.{reading, log_number, numbers, is_bad, sign, sign_of, number_words, unless_sign, formed, add_of, drop_of, is_positive_number as positive_number}
 use Rattle.proof_log.specs.Texts.{literal_text, before_spaces, step_text, last_added, steps_text, log_text, IsId, IsLiteral, IsHint, HasLine}
 use Rattle.proof_log.proofs.Forms.{reads_step}
 use Rattle.proof_log.proofs.Printed.{IsPlain, IsWord, plain_word, decimal_plain, minus_plain, number_decimal, number_minus, AreWords, words_spaced, spaced_append}

@@ -6,7 +6,7 @@ use Rattle.std.specs.Prelude.{unsigned_abs}
 use Rattle.std.specs.List.{list_any, list_all, slice_split}
 use Rattle.std.specs.Str.{bytes_eq}
 use Rattle.arc_base.specs.WordNumbers.{number}
-use Rattle.cnf_types.specs.Dimacs.{is_comment, line_words, is_zero, literal_of}
+use Rattle.cnf_types.specs.Dimacs.{is_comment, cnf_line_words, is_zero, literal_of}
 use Rattle.arc_base.specs.TextLines.{without_return}
 use Rattle.arc_base.specs.Words.{is_filled}
 use Rattle.proof_log.specs.declared.numbers.Sign.{Sign}
@@ -51,9 +51,9 @@ is_bad word = is_none (log_number word)
 abbrev pub numbers : List (List ℕ) → List ℤ
 numbers ws = filter_map log_number ws
 
-abbrev pub is_positive : ℤ → Bool
-is_positive (pos n) = nat_lt 0 n
-is_positive (negsuc n) = false
+abbrev pub is_positive_number : ℤ → Bool
+is_positive_number (pos n) = nat_lt 0 n
+is_positive_number (negsuc n) = false
 
 abbrev pub is_negative : ℤ → Bool
 is_negative (pos n) = false
@@ -62,19 +62,19 @@ is_negative (negsuc n) = true
 -- `ID LITS 0 HINTS 0`, from what is between the zeros after the id
 abbrev pub add_of : ℤ → List (List ℤ) → Option Step
 add_of id (lits ∷ hints ∷ [] ∷ []) =
-    if is_positive id then Some (Add (unsigned_abs id) (map literal_of lits) hints) else None
+    if is_positive_number id then Some (Add (unsigned_abs id) (map literal_of lits) hints) else None
 add_of id _ = None
 
 -- `NUM d IDS 0`
 abbrev pub drop_of : ℤ → List (List ℤ) → Option Step
 drop_of num (ids ∷ [] ∷ []) =
-    if not (is_negative num) && list_all is_positive ids
+    if not (is_negative num) && list_all is_positive_number ids
     then Some (Drop (map unsigned_abs ids)) else None
 drop_of num _ = None
 
 -- `ID b W 0`
 abbrev pub bound_of : ℤ → List ℤ → Option Step
-bound_of id (price ∷ end ∷ []) = if is_positive id &&
+bound_of id (price ∷ end ∷ []) = if is_positive_number id &&
     (not (is_negative price) && nat_lt (unsigned_abs price) (2 ^ 32) && is_zero end)
     then Some (Bound (unsigned_abs id) (unsigned_abs price)) else None
 bound_of id _ = None
@@ -102,10 +102,10 @@ step_of_words ws =
 unfoldable pub reading : List ℕ → Result (Option Step) LineKind
 reading line =
     if not (is_filled (without_return line)) || is_comment line then Ok None
-    else step_of_words (line_words line)
+    else step_of_words (cnf_line_words line)
 
 -- the fault is that of the line, or out of memory
-abbrev pub IsFaultOf : List ℕ → LineKind → Type 0
-IsFaultOf line Memory = Unit {0}
-IsFaultOf line BadLine = reading line ≡ Err BadLine
-IsFaultOf line BadNumber = reading line ≡ Err BadNumber
+abbrev pub IsFaultOfLine : List ℕ → LineKind → Type 0
+IsFaultOfLine line Memory = Unit {0}
+IsFaultOfLine line BadLine = reading line ≡ Err BadLine
+IsFaultOfLine line BadNumber = reading line ≡ Err BadNumber

@@ -1,6 +1,6 @@
 //! The step that the numbers of a line write.
 ghost use Rattle.cnf_types.specs.Dimacs.{is_zero, literal_of};
-ghost use Rattle.proof_log.specs.Reading.{add_of, drop_of, bound_of, is_positive, formed};
+ghost use Rattle.proof_log.specs.Reading.{add_of, drop_of, bound_of, is_positive_number, formed};
 ghost use Rattle.std.specs.List.{list_all, slice_split};
 ghost use Rattle.std.specs.Prelude.{◌≡◌, ◌<◌, ◌^◌, ◌-◌, [], ◌∷◌, ℤ, None, length, map, take, false};
 ghost use Rattle.std.specs.Prelude.{All, IfOk, IfNone, IfSome, Some, unsigned_abs};
@@ -96,7 +96,7 @@ fn ids(alloc: Global, numbers: &[i64]) -> Result<List<u64>, Memory>
 
 /// Whether each number is above 0.
 fn all_positive(numbers: &[i64]) -> bool
-    ensures { result ≡ list_all is_positive numbers.now }
+    ensures { result ≡ list_all is_positive_number numbers.now }
 {
     numbers.iter().all(|number| *number > 0)
 }

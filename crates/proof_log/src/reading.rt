@@ -1,5 +1,5 @@
 //! Steps from the lines of a proof log.
-ghost use Rattle.proof_log.specs.Reading.{formed, ok_or_bad_line, reading, IsFaultOf};
+ghost use Rattle.proof_log.specs.Reading.{formed, ok_or_bad_line, reading, IsFaultOfLine};
 ghost use Rattle.std.specs.Prelude.{◌≡◌, ◌<◌, ◌^◌, All, IfOk, IfErr, IfSome, IsErrOf, IsNone, None};
 ghost use Rattle.std.specs.Prelude.{Ok, OnOk, unsigned_abs};
 
@@ -41,7 +41,7 @@ pub fn line_numbers(numbers: &mut Vec<i64>, line: &[u8]) -> Result<Option<Sign>,
         reading line.now ≡ ok_or_bad_line (formed sign numbers.new.items))) }
     ensures within { OnOk result (All (λ z. unsigned_abs z < 2 ^ 63) numbers.new.items) }
     ensures form { IsErrOf result LineKind.BadLine → ⊥ }
-    ensures fault { IfErr result (IsFaultOf line.now) }
+    ensures fault { IfErr result (IsFaultOfLine line.now) }
 {
     let text = without_return(line);
     if text.is_empty() || is_comment(line) {
@@ -58,7 +58,7 @@ pub fn line_numbers(numbers: &mut Vec<i64>, line: &[u8]) -> Result<Option<Sign>,
 /// 0, and W below 2^32.
 pub fn step(alloc: Global, line: &[u8]) -> Result<Option<Step>, LineKind>
     ensures step { IfOk result (λ s. reading line.now ≡ Ok s) }
-    ensures fault { IfErr result (IsFaultOf line.now) }
+    ensures fault { IfErr result (IsFaultOfLine line.now) }
 {
     let mut numbers = Vec::new(alloc);
     let Some(sign) = line_numbers(&mut numbers, line)? else {

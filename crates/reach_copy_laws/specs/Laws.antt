@@ -6,7 +6,7 @@ use Rattle.net_model.specs.declared.policies.Class.{Class}
 use Rattle.net_model.specs.declared.policies.Policy.{Policy}
 use Rattle.net_model.specs.declared.policies.PolicyKind.TheVariants.{Reach}
 use Rattle.net_model.specs.declared.rows.Network.{Network}
-use Rattle.net_model.specs.Packets.{IsOf, subject}
+use Rattle.net_model.specs.Packets.{IsOfClass, subject}
 use Rattle.net_model.specs.Routing.{DistanceMap, IsStable}
 use Rattle.net_model.specs.Forwarding.{Ends, AreEnds, target_router}
 use Rattle.copy_laws.specs.Passing.{PermitsFewer, RealPacket, RealNetwork, PermitsFewerReally}
@@ -41,7 +41,7 @@ abbrev pub FewerKeepsPastReally : Type 0
 FewerKeepsPastReally =
     (real : RealNetwork) (copy : Network) → PermitsFewerReally real copy →
     (class : Class) (k : ℕ) → MeetsPast copy (reach_of class k) →
-    (x : RealPacket) → IsOf class x.seen → MeetsPastFor (real x) class k x.seen
+    (x : RealPacket) → IsOfClass class x.seen → MeetsPastFor (real x) class k x.seen
 
 -- the network prefers the list for the packet of the policy: with no link failed it keeps to it
 pub record PrefersForOne (net : Network) (policy : Policy) (wanted : List Router)
@@ -56,4 +56,5 @@ abbrev pub FewerKeepsPreferredReally : Type 0
 FewerKeepsPreferredReally =
     (real : RealNetwork) (copy : Network) → PermitsFewerReally real copy →
     (policy : Policy) (wanted : List Router) → Prefers copy policy wanted →
-    (x : RealPacket) → IsOf (subject policy) x.seen → PrefersForOne (real x) policy wanted x.seen
+    (x : RealPacket) → IsOfClass (subject policy) x.seen →
+    PrefersForOne (real x) policy wanted x.seen

@@ -2,7 +2,7 @@
 use Rattle.std.proofs.Common.{◌≡◌, ℕ, zero, suc, ◌<◌, ◌≤◌, List, [], ◌∷◌, refl, ◌∙◌, arith, inl, inr, ⊎_elim}
 use Rattle.net_doc.specs.declared.fault.Refusal.{Refusal}
 use Rattle.net_build.specs.Order.{AreClear, IsFirstOf, RefusesWithin, Try, tries}
-use Rattle.net_rules.specs.Reasons.{IsClear, IsFirst}
+use Rattle.net_rules.specs.Reasons.{NoRefusal, IsEarliest}
 use Rattle.arc_base.specs.declared.refusal.Kind.TheVariants as kinds
 use Rattle.refusal_order_laws.specs.Gaps.{TextsHaveBlocks, SettingsHaveAnswer}
 
@@ -13,7 +13,7 @@ texts-blocks text none = record {
 }
 
 -- a reason of whose refusals none is the first makes none
-module _ (Reason : Refusal → Type 0) (none : (r : Refusal) → ¬ IsFirst Reason r) where
+module _ (Reason : Refusal → Type 0) (none : (r : Refusal) → ¬ IsEarliest Reason r) where
   by-number : (file : ℕ) → ((o : Refusal) → o.file < file → Reason o → ⊥) → (number : ℕ) (r : Refusal) → r.file ≡ file → r.number ≤ number → Reason r → ⊥
   by-number file earlier zero r here low made =
       none r (record {
@@ -32,7 +32,7 @@ module _ (Reason : Refusal → Type 0) (none : (r : Refusal) → ¬ IsFirst Reas
   by-file zero r low made = absurd (omega (arith, low))
   by-file (suc file) r low made = by-number r.file (λ o less is. by-file file o (omega (arith, less, low)) is) r.number r refl (omega arith) made
 
-  nothing-made : IsClear Reason
+  nothing-made : NoRefusal Reason
   nothing-made r made = by-file (suc r.file) r (omega arith) made
 
 -- whatever refusals some tries make: it cannot be that they are not clear and that none is the first

@@ -8,7 +8,7 @@ use Rattle.net_model.specs.declared.policies.Document.{Document}
 use Rattle.net_model.specs.declared.rows.Network.{Network}
 use Rattle.ios_config.specs.declared.settings.Config.{Config}
 use Rattle.net_build.specs.Networks.{HasBlocks, IsFaulty, IsFirstRefusalWithin, IsNetworkWithin}
-use Rattle.net_build.specs.Networks.{Says}
+use Rattle.net_build.specs.Networks.{HasSettings}
 use Rattle.net_rules.specs.Rows.{AreRows}
 
 -- a text that is refused at no line has blocks
@@ -21,6 +21,7 @@ TextsHaveBlocks =
 abbrev pub SettingsHaveAnswer : Type 0
 SettingsHaveAnswer =
     (down : List ℕ) (most_entries : ℕ) (doc : Document) (files : List (List ℕ))
-    (configs : List Config) (net : Network) → AllZip Says files configs → AreRows doc configs net
+    (configs : List Config) (net : Network) → AllZip HasSettings files configs →
+    AreRows doc configs net
     → ¬ IsNetworkWithin down most_entries doc files net
     → ((r : Refusal) → ¬ IsFirstRefusalWithin down most_entries doc files r) → ⊥

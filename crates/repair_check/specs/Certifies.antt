@@ -35,7 +35,7 @@ use Rattle.repair_check.specs.Outcomes.{ReaderAnswers, IsRepairOutcome}
 pub record Certifies (net : Network) (doc : Document) (list : List Edit) (claim : Claim)
     (text : List ℕ) : Type 0 where
   pub told : List Told
-  pub is_text : texts.IsCertificate net doc list claim told (lines text)
+  pub is_text : texts.IsCertificateText net doc list claim told (lines text)
   pub certificate : IsCertificate net doc list claim (filter_map (λ t. t) told)
 
 -- some claim has this text as its certificate

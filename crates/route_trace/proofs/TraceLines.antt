@@ -17,7 +17,7 @@ use Rattle.route_trace.specs.declared.steps.Step.{Step}
 use Rattle.route_trace.specs.declared.steps.End.TheVariants.{Tail}
 use Rattle.route_trace.specs.Routes.{distance_map, Owns}
 use Rattle.route_trace.specs.Steps.{AreSteps, IsStableOver, attains, is_hop, hops_of, steps_at}
-use Rattle.route_trace.specs.TraceText.{router_name, route_line, route_lines, trace_head, trace_text, IsTrace}
+use Rattle.route_trace.specs.TraceText.{traced_name, route_line, route_lines, trace_head, trace_text, IsTrace}
 use Rattle.route_trace.proofs.NextHops.{hops_are_next}
 use Rattle.route_trace.proofs.StableSteps.{are_distances}
 
@@ -47,22 +47,22 @@ range_more n =
     ∙ ap (λ (ys : List ℕ). ys ++ (n ∷ [])) (map-id (range_with_len 0 n))
 
 lines_more : (net : Network) (distances : List (Option ℕ)) (hops : ℕ → List Link) (n : ℕ) →
-    route_lines net distances hops (n + 1) ≡ route_lines net distances hops n ++ route_line (router_name net n) (distance_map distances n) (hops n)
+    route_lines net distances hops (n + 1) ≡ route_lines net distances hops n ++ route_line (traced_name net n) (distance_map distances n) (hops n)
 lines_more net distances hops n =
-    let f : ℕ → List ℕ = λ u. route_line (router_name net u) (distance_map distances u) (hops u) in
+    let f : ℕ → List ℕ = λ u. route_line (traced_name net u) (distance_map distances u) (hops u) in
     ap (flat_map f) (range_more n) ∙ flat_map-append f (range_with_len 0 n) (n ∷ [])
     ∙ ap (λ (t : List ℕ). flat_map f (range_with_len 0 n) ++ t) (append-nil (f n))
 
 -- one line more
 pub line_more : (net : Network) (distances : List (Option ℕ)) (hops : ℕ → List Link) (n : ℕ) (start text now name : List ℕ) (d : Option ℕ) (links : List Link) →
-    text ≡ start ++ route_lines net distances hops n → now ≡ text ++ route_line name d links → name ≡ router_name net n → d ≡ distance_map distances n →
+    text ≡ start ++ route_lines net distances hops n → now ≡ text ++ route_line name d links → name ≡ traced_name net n → d ≡ distance_map distances n →
     links ≡ hops n → now ≡ start ++ route_lines net distances hops (n + 1)
 line_more net distances hops n start text now name d links before grown name_is d_is links_are =
-    let line : route_line name d links ≡ route_line (router_name net n) (distance_map distances n) (hops n) =
-    ap (λ (x : List ℕ). route_line x d links) name_is ∙ ap (λ (x : Option ℕ). route_line (router_name net n) x links) d_is
-    ∙ ap (route_line (router_name net n) (distance_map distances n)) links_are in
+    let line : route_line name d links ≡ route_line (traced_name net n) (distance_map distances n) (hops n) =
+    ap (λ (x : List ℕ). route_line x d links) name_is ∙ ap (λ (x : Option ℕ). route_line (traced_name net n) x links) d_is
+    ∙ ap (route_line (traced_name net n) (distance_map distances n)) links_are in
     grown ∙ ap (λ (t : List ℕ). t ++ route_line name d links) before ∙ ap (λ (t : List ℕ). (start ++ route_lines net distances hops n) ++ t) line
-    ∙ append_assoc start (route_lines net distances hops n) (route_line (router_name net n) (distance_map distances n) (hops n))
+    ∙ append_assoc start (route_lines net distances hops n) (route_line (traced_name net n) (distance_map distances n) (hops n))
     ∙ ap (λ (t : List ℕ). start ++ t) (sym (lines_more net distances hops n))
 
 -- the owner of the host network in which a prefix lies
@@ -92,12 +92,12 @@ is_trace net valid failed from to host source target steps distances text is_sou
 pub text_from : (net : Network) (from to : Prefix) (source target : FaceRow) (steps : List Step) (distances : List (Option ℕ))
     (empty head whole at_source at_target : List ℕ) (xs : List Step) (ds : List (Option ℕ)) → empty ≡ [] → head ≡ empty ++ trace_head from at_source to at_target →
     whole ≡ head ++ route_lines net ds (hops_of xs (distance_map ds)) (length net.routers) →
-    at_source ≡ router_name net source.router.0 → at_target ≡ router_name net target.router.0 → xs ≡ steps → ds ≡ distances →
+    at_source ≡ traced_name net source.router.0 → at_target ≡ traced_name net target.router.0 → xs ≡ steps → ds ≡ distances →
     whole ≡ trace_text net from source to target distances (hops_of steps (distance_map distances))
 text_from net from to source target steps distances empty head whole at_source at_target xs ds is_empty is_head is_whole of_source of_target of_steps of_distances =
-    let first : head ≡ trace_head from (router_name net source.router.0) to (router_name net target.router.0) =
+    let first : head ≡ trace_head from (traced_name net source.router.0) to (traced_name net target.router.0) =
     is_head ∙ ap (λ (t : List ℕ). t ++ trace_head from at_source to at_target) is_empty
-    ∙ ap (λ (t : List ℕ). trace_head from t to at_target) of_source ∙ ap (λ (t : List ℕ). trace_head from (router_name net source.router.0) to t) of_target in
+    ∙ ap (λ (t : List ℕ). trace_head from t to at_target) of_source ∙ ap (λ (t : List ℕ). trace_head from (traced_name net source.router.0) to t) of_target in
     is_whole ∙ ap (λ (t : List ℕ). t ++ route_lines net ds (hops_of xs (distance_map ds)) (length net.routers)) first
     ∙ ap (λ (ys : List Step). trace_text net from source to target ds (hops_of ys (distance_map ds))) of_steps
     ∙ ap (λ (es : List (Option ℕ)). trace_text net from source to target es (hops_of steps (distance_map es))) of_distances

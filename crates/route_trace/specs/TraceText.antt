@@ -13,8 +13,8 @@ use Rattle.net_model.specs.Forwarding.{IsHostFace}
 use Rattle.route_trace.specs.Routes.{distance_map, AreDistances, AreNextHops}
 
 -- the name of the router at a place
-abbrev pub router_name : Network → ℕ → List ℕ
-router_name net router = option_map_or (λ r. r.name) (slice_get net.routers router) []
+abbrev pub traced_name : Network → ℕ → List ℕ
+traced_name net router = option_map_or (λ r. r.name) (slice_get net.routers router) []
 
 -- a prefix and the name of the router that owns its host network
 abbrev pub end_text : Prefix → List ℕ → List ℕ
@@ -26,27 +26,27 @@ trace_head from source to target =
     codes "trace" ++ end_text from source ++ end_text to target ++ codes "\n"
 
 -- the number of a link, counted from 1
-abbrev pub link_text : Link → List ℕ
-link_text link = codes " " ++ decimal (link.0 + 1)
+abbrev pub traced_link : Link → List ℕ
+traced_link link = codes " " ++ decimal (link.0 + 1)
 
 -- the links of the next hops, where there are any
 abbrev pub hops_text : List Link → List ℕ
 hops_text [] = []
-hops_text (hop ∷ hops) = codes " via" ++ flat_map link_text (hop ∷ hops)
+hops_text (hop ∷ hops) = codes " via" ++ flat_map traced_link (hop ∷ hops)
 
 -- a router's distance and its next hops, or none
-abbrev pub route_text : Option ℕ → List Link → List ℕ
-route_text None hops = codes "none"
-route_text (Some distance) hops = decimal distance ++ hops_text hops
+abbrev pub traced_route : Option ℕ → List Link → List ℕ
+traced_route None hops = codes "none"
+traced_route (Some distance) hops = decimal distance ++ hops_text hops
 
 -- the line of a router
 abbrev pub route_line : List ℕ → Option ℕ → List Link → List ℕ
-route_line name distance hops = name ++ codes " " ++ route_text distance hops ++ codes "\n"
+route_line name distance hops = name ++ codes " " ++ traced_route distance hops ++ codes "\n"
 
 -- the lines of the routers, in order
 abbrev pub route_lines : Network → List (Option ℕ) → (ℕ → List Link) → ℕ → List ℕ
 route_lines net distances hops routers =
-    flat_map (λ u. route_line (router_name net u) (distance_map distances u) (hops u))
+    flat_map (λ u. route_line (traced_name net u) (distance_map distances u) (hops u))
     (range_with_len 0 routers)
 
 -- the text of a trace from a prefix at one interface to a prefix at another: the two ends, and then
@@ -54,7 +54,7 @@ route_lines net distances hops routers =
 abbrev pub trace_text : Network → Prefix → FaceRow → Prefix → FaceRow → List (Option ℕ) →
     (ℕ → List Link) → List ℕ
 trace_text net from source to target distances hops =
-    trace_head from (router_name net source.router.0) to (router_name net target.router.0)
+    trace_head from (traced_name net source.router.0) to (traced_name net target.router.0)
     ++ route_lines net distances hops (length net.routers)
 
 -- the text is that of the trace: it has the stable distances to the target's host network and the

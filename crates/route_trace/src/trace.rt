@@ -3,8 +3,8 @@ ghost use Rattle.net_model.specs.Forwarding.{HasHost};
 ghost use Rattle.net_model.specs.Validity.{IsValid};
 ghost use Rattle.route_trace.specs.Routes.{flagged, distance_map};
 ghost use Rattle.route_trace.specs.Steps.{IsFit, hops_of};
-ghost use Rattle.route_trace.specs.TraceText.{router_name, end_text, trace_head, hops_text};
-ghost use Rattle.route_trace.specs.TraceText.{route_text, route_line, route_lines, IsTrace};
+ghost use Rattle.route_trace.specs.TraceText.{traced_name, end_text, trace_head, hops_text};
+ghost use Rattle.route_trace.specs.TraceText.{traced_route, route_line, route_lines, IsTrace};
 ghost use Rattle.std.specs.Prelude.{◌≡◌, ◌++◌, length, All, IfOk, OnOk};
 
 use crate::front::settle;
@@ -47,7 +47,7 @@ pub fn trace_text(
 }
 
 fn name(net: &Network, router: Router) -> &[u8]
-    ensures { result.now ≡ router_name net.now router.0 }
+    ensures { result.now ≡ traced_name net.now router.0 }
 {
     match net.routers.get(router.0) {
         Some(row) => row.name.bytes(),
@@ -130,7 +130,7 @@ fn push_route(
     distance: Option<u64>,
     hops: &[Link],
 ) -> Result<(), Memory>
-    ensures { OnOk result (text.new.items ≡ text.old.items ++ route_text distance hops.now) }
+    ensures { OnOk result (text.new.items ≡ text.old.items ++ traced_route distance hops.now) }
 {
     let Some(distance) = distance else {
         text.extend_from_slice(b"none")?;

@@ -7,7 +7,7 @@ use Rattle.net_model.specs.declared.policies.Document.{Document}
 use Rattle.net_model.specs.declared.policies.LinkText.{LinkText}
 use Rattle.ios_config.specs.declared.settings.Config.{Config}
 use Rattle.net_rules.specs.Sites.{FullName, full_names, a_end, b_end, ends_of}
-use Rattle.net_rules.specs.Reasons.{IsClear, IsFirst, InDocument}
+use Rattle.net_rules.specs.Reasons.{NoRefusal, IsEarliest, InDocument}
 use Rattle.net_rules.specs.Linking.{JoinsFree, RefusesLinkFace}
 
 -- what is wrong with a link where the interfaces have these names and the links are these
@@ -21,13 +21,13 @@ not_free names earlier link (inr there) free = free.b_free there
 
 -- the refusals are those over the names and links that were gone through
 pub refused_link : (doc : Document) (configs : List Config) (names : List FullName) (links : List LinkText) (r : Refusal) → names ≡ full_names configs → links ≡ doc.links →
-    IsFirst (InDocument kinds.LinkFace (IsNoLink names links) links) r → IsFirst (RefusesLinkFace doc configs) r
+    IsEarliest (InDocument kinds.LinkFace (IsNoLink names links) links) r → IsEarliest (RefusesLinkFace doc configs) r
 refused_link doc configs names links r same_names same_links first =
-    subst (λ (ns : List FullName). IsFirst (InDocument kinds.LinkFace (IsNoLink ns doc.links) doc.links) r) same_names
-    (subst (λ (ls : List LinkText). IsFirst (InDocument kinds.LinkFace (IsNoLink names ls) ls) r) same_links first)
+    subst (λ (ns : List FullName). IsEarliest (InDocument kinds.LinkFace (IsNoLink ns doc.links) doc.links) r) same_names
+    (subst (λ (ls : List LinkText). IsEarliest (InDocument kinds.LinkFace (IsNoLink names ls) ls) r) same_links first)
 
 pub clear_links : (doc : Document) (configs : List Config) (names : List FullName) (links : List LinkText) → names ≡ full_names configs → links ≡ doc.links →
-    IsClear (InDocument kinds.LinkFace (IsNoLink names links) links) → IsClear (RefusesLinkFace doc configs)
+    NoRefusal (InDocument kinds.LinkFace (IsNoLink names links) links) → NoRefusal (RefusesLinkFace doc configs)
 clear_links doc configs names links same_names same_links clear =
-    subst (λ (ns : List FullName). IsClear (InDocument kinds.LinkFace (IsNoLink ns doc.links) doc.links)) same_names
-    (subst (λ (ls : List LinkText). IsClear (InDocument kinds.LinkFace (IsNoLink names ls) ls)) same_links clear)
+    subst (λ (ns : List FullName). NoRefusal (InDocument kinds.LinkFace (IsNoLink ns doc.links) doc.links)) same_names
+    (subst (λ (ls : List LinkText). NoRefusal (InDocument kinds.LinkFace (IsNoLink names ls) ls)) same_links clear)

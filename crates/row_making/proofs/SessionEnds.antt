@@ -11,7 +11,7 @@ use Rattle.net_model.specs.declared.rows.SessionRow.{SessionRow}
 use Rattle.net_model.specs.Routing.{tail_end}
 use Rattle.ios_config.specs.declared.settings.Config.{Config}
 use Rattle.net_rules.specs.Sites.{Site, FullName, sites, host_name, full_name, full_names, a_end, b_end, two_ends}
-use Rattle.net_rules.specs.Reasons.{IsClear}
+use Rattle.net_rules.specs.Reasons.{NoRefusal}
 use Rattle.net_rules.specs.Linking.{JoinsFree, RefusesLinkFace}
 use Rattle.net_rules.specs.Rows.{IsLinkRow, IsSessionOf}
 use Rattle.row_making.specs.Sessions.{AreFilesOf}
@@ -34,13 +34,13 @@ has_end text true = Contains-head (a_end text) (b_end text ∷ [])
 has_end text false = Contains-tail (a_end text) (b_end text) (b_end text ∷ []) (Contains-head (b_end text) [])
 
 -- an earlier link has another end
-no_earlier : (doc : Document) (configs : List Config) → IsClear (RefusesLinkFace doc configs) → (i j : ℕ) (s t : LinkText) (from to : Bool) →
+no_earlier : (doc : Document) (configs : List Config) → NoRefusal (RefusesLinkFace doc configs) → (i j : ℕ) (s t : LinkText) (from to : Bool) →
     slice_get doc.links i ≡ Some s → slice_get doc.links j ≡ Some t → i < j → tail_name s from ≡ tail_name t to → ⊥
 no_earlier doc configs clear i j s t from true at_i at_j before same = (free doc configs clear i j s t before at_i at_j (tail_name s from) (has_end s from)).0 same
 no_earlier doc configs clear i j s t from false at_i at_j before same = (free doc configs clear i j s t before at_i at_j (tail_name s from) (has_end s from)).1 same
 
 -- the two ends of a link differ
-one_side : (doc : Document) (configs : List Config) → IsClear (RefusesLinkFace doc configs) → (place : ℕ) (text : LinkText) (from to : Bool) → slice_get doc.links place ≡ Some text →
+one_side : (doc : Document) (configs : List Config) → NoRefusal (RefusesLinkFace doc configs) → (place : ℕ) (text : LinkText) (from to : Bool) → slice_get doc.links place ≡ Some text →
     tail_name text from ≡ tail_name text to → from ≡ to
 one_side doc configs clear place text true true at same = refl
 one_side doc configs clear place text false false at same = refl
@@ -50,7 +50,7 @@ one_side doc configs clear place text false true at same =
     absurd (joins_free doc configs clear place text at (λ (free : JoinsFree (full_names configs) (take place doc.links) text). free.joins.routers (ap (λ (n : FullName). n.0) (sym same))))
 
 -- where two ends have one name, they are one end of one link
-one_name : (doc : Document) (configs : List Config) → IsClear (RefusesLinkFace doc configs) → (i j : ℕ) (s t : LinkText) (from to : Bool) →
+one_name : (doc : Document) (configs : List Config) → NoRefusal (RefusesLinkFace doc configs) → (i j : ℕ) (s t : LinkText) (from to : Bool) →
     slice_get doc.links i ≡ Some s → slice_get doc.links j ≡ Some t → tail_name s from ≡ tail_name t to → (i ≡ j) × (from ≡ to)
 one_name doc configs clear i j s t from to at_i at_j same =
     elim (cases_lt i j) [

@@ -10,7 +10,7 @@ use Rattle.net_model.specs.declared.rows.Network.{Network}
 use Rattle.ios_config.specs.declared.settings.Config.{Config}
 use Rattle.arc_base.specs.Lists.{AreDistinct}
 use Rattle.net_rules.specs.Lists.{route_list_key}
-use Rattle.net_rules.specs.Reasons.{IsClear}
+use Rattle.net_rules.specs.Reasons.{NoRefusal}
 use Rattle.net_rules.specs.Linking.{RefusesLinkFace}
 use Rattle.net_rules.specs.Rows.{AreBaseRows, IsConfigured, IsSessionOf, IsSessionBefore}
 
@@ -36,7 +36,7 @@ AddsOne {X} P old new = ((new ≡ old) × ((x : X) → ¬ P x)) ⊎ ((x : X) × 
 pub record AreFilesOf (configs : List Config) (net : Network)
     (lists : List (ℕ × List ℕ)) : Type 0 where
   pub doc : Document
-  pub free : IsClear (RefusesLinkFace doc configs)
+  pub free : NoRefusal (RefusesLinkFace doc configs)
   pub base : AreBaseRows doc configs net
   pub keys : lists ≡ map route_list_key net.route_lists
   pub distinct : AreDistinct lists

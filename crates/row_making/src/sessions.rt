@@ -8,7 +8,7 @@ ghost use Rattle.arc_base.specs.Lists.{AreDistinct};
 ghost use Rattle.net_rules.specs.Linking.{RefusesLinkFace};
 ghost use Rattle.net_rules.specs.Lists.{keys_at, route_list_key};
 ghost use Rattle.net_rules.specs.Neighbors.{remote_of};
-ghost use Rattle.net_rules.specs.Reasons.{IsClear};
+ghost use Rattle.net_rules.specs.Reasons.{NoRefusal};
 ghost use Rattle.net_rules.specs.Rows.{AreBaseRows, IsConfigured, AreSessions};
 ghost use Rattle.net_rules.specs.Settings.{lines_of};
 ghost use Rattle.row_making.specs.Sessions.{IsSessionOver, AddsOne, AddsSessions};
@@ -138,7 +138,7 @@ fn bgp_rows(
     requires lists { keys_at lists.now.keys ≡ map route_list_key net.now.route_lists }
     requires distinct { AreDistinct (map route_list_key net.now.route_lists) }
     ensures { IfOk result (λ sessions. (doc : Document) →
-        IsClear (RefusesLinkFace doc configs.now) → AreBaseRows doc configs.now net.now →
+        NoRefusal (RefusesLinkFace doc configs.now) → AreBaseRows doc configs.now net.now →
         AreSessions protocols.Bgp configs.now net.now.links
         (map route_list_key net.now.route_lists) sessions) }
 {
@@ -162,7 +162,7 @@ pub fn session_rows(
     requires lists { keys_at lists.now.keys ≡ map route_list_key net.now.route_lists }
     requires distinct { AreDistinct (map route_list_key net.now.route_lists) }
     ensures { IfOk result (λ sessions. (doc : Document) →
-        IsClear (RefusesLinkFace doc configs.now) → AreBaseRows doc configs.now net.now →
+        NoRefusal (RefusesLinkFace doc configs.now) → AreBaseRows doc configs.now net.now →
         AreSessions net.now.protocol configs.now net.now.links
         (map route_list_key net.now.route_lists) sessions) }
 {

@@ -11,7 +11,7 @@ use Rattle.net_model.specs.declared.policies.Class.{Class}
 use Rattle.net_model.specs.declared.policies.Policy.{Policy}
 use Rattle.net_model.specs.declared.rows.Network.{Network}
 use Rattle.traffic_classes.specs.Classes.{AreClasses, told}
-use Rattle.traffic_classes.specs.AllClasses.{with_class, is_same, each_once, HaveClasses}
+use Rattle.traffic_classes.specs.AllClasses.{with_class, is_same_class, each_once, HaveClasses}
 use Rattle.traffic_classes.proofs.EachPolicy.{no_more}
 use Rattle.traffic_classes.proofs.MakingUp.{one_list}
 use Rattle.verdicts.specs.Judged.{HasFewClassesEach}
@@ -19,9 +19,9 @@ use Rattle.run_inputs.specs.Counts.{PoliciesHaveFewClasses, HasManyClasses}
 
 -- one more class only lengthens the list
 one_more : (classes : List Class) (class : Class) → length classes ≤ length (with_class classes class)
-one_more classes class = go (list_any (is_same class) classes) refl
+one_more classes class = go (list_any (is_same_class class) classes) refl
   where
-    go : (t : Bool) → list_any (is_same class) classes ≡ t → length classes ≤ length (if t then classes else classes ++ class ∷ [])
+    go : (t : Bool) → list_any (is_same_class class) classes ≡ t → length classes ≤ length (if t then classes else classes ++ class ∷ [])
     go true e = omega arith
     go false e = omega (arith, length-append classes (class ∷ []))
 

@@ -10,7 +10,7 @@ use Rattle.std.proofs.lemmas.List.Elements.{All-weaker}
 use Rattle.cnf_types.specs.declared.literal.Lit.{Lit}
 use Rattle.proof_log.specs.declared.steps.Step.{Step}
 use Rattle.proof_log.specs.declared.steps.Step.TheVariants.{Add, Drop, Bound}
-use Rattle.proof_check.specs.Knowledge.{is_empty, with_clause, without_clauses}
+use Rattle.proof_check.specs.Knowledge.{is_empty_clause, with_clause, without_clauses}
 use Rattle.proof_check.specs.Logs.{adds_empty}
 use Rattle.sat_core.specs.declared.numbered.Numbered.{Numbered}
 use Rattle.sat_core.specs.States.{State}
@@ -127,7 +127,7 @@ module _ (s now dived next : State) (old new newer : List Step) (empty : Bool) (
         ∙ ap (λ (xs : List Step). live_after (clause_in s.clauses) xs j) (sym more_is);
     last = omega (arith, taught.last, kept.last_id, follows.last, one_more);
     filled = ap (list_any adds_empty) more_is ∙ list_any-append adds_empty (appended old new) step
-        ∙ or_from (list_any adds_empty (appended old new)) (is_empty taught.lits || false) follows.filled (or_from (is_empty taught.lits) false (sym taught.tells ∙ e) refl);
+        ∙ or_from (list_any adds_empty (appended old new)) (is_empty_clause taught.lits || false) follows.filled (or_from (is_empty_clause taught.lits) false (sym taught.tells ∙ e) refl);
   }
 
 -- the ids of the clauses still differ

@@ -6,7 +6,7 @@ use Rattle.std.proofs.lemmas.Bool.{false≢true, or_left}
 use Rattle.cnf_types.specs.declared.literal.Lit.{Lit}
 use Rattle.cnf_types.specs.Literals.{variable}
 use Rattle.proof_check.specs.Propagation.{same, is_among}
-use Rattle.proof_check.specs.Knowledge.{is_empty}
+use Rattle.proof_check.specs.Knowledge.{is_empty_clause}
 use Rattle.sat_core.specs.declared.assigned.Held.{Held}
 use Rattle.sat_core.specs.declared.numbered.Numbered.{Numbered}
 use Rattle.sat_core.specs.Trails.{clause_at, IsOf, IsFalsified}
@@ -43,7 +43,7 @@ conflict_pass s sound h none flags first current start hints lits unmarked confl
     (subst (λ (hs : List ℤ). IsPass s (length s.trail) flags [] hs current) (sym is) begins))
 
 new_where : (s : State) (sound : IsSound s) (flags : List Bool) (lits : List Lit) (hints : List ℤ) (current : ℕ) → IsPass s 0 flags lits hints current →
-    IsFalse (is_empty lits) → IsNew (clause_in s.clauses) lits hints
+    IsFalse (is_empty_clause lits) → IsNew (clause_in s.clauses) lits hints
 new_where s sound flags [] hints current pass filled = absurd (false≢true (sym filled))
 new_where s sound flags (l ∷ ls) hints current pass filled = end_new s sound flags (l ∷ ls) hints current pass l (or_left (same l l) (is_among ls l) (eq-same l l refl))
 

@@ -12,7 +12,7 @@ use Rattle.proof_log.specs.declared.steps.Step.TheVariants.{Add, Drop, Bound}
 use Rattle.proof_log.specs.Texts.{HasLine, IsId, IsLiteral, IsHint}
 use Rattle.proof_check.specs.declared.faults.StepFault.TheVariants.{UnknownId}
 use Rattle.proof_check.specs.Propagation.{is_among, chain_fault}
-use Rattle.proof_check.specs.Knowledge.{Knowledge, step_fault, after, with_clause, without_clauses, is_empty}
+use Rattle.proof_check.specs.Knowledge.{Knowledge, step_fault, after, with_clause, without_clauses, is_empty_clause}
 use Rattle.proof_check.specs.Logs.{after_all, IsAccepted, adds_empty}
 use Rattle.sat_core.specs.Trails.{IsOf}
 use Rattle.clean_logs.specs.Lemmas.{IsNew}
@@ -46,7 +46,7 @@ module _ (live : Live) (last : ℕ) (k : Knowledge) (knows : KnowsAll k live las
     pub step_live : All (IsLive k.clause) hints
     step_live = subst (λ (l : ℕ → Option (List Lit)). All (IsLive l) hints) (sym same_clauses) learnt.live
 
-    pub step_new : IsFalse (is_empty lits) → IsNew k.clause lits hints
+    pub step_new : IsFalse (is_empty_clause lits) → IsNew k.clause lits hints
     step_new filled = subst (λ (l : ℕ → Option (List Lit)). IsNew l lits hints) (sym same_clauses) (learnt.new filled)
 
     pub step_knows : KnowsAll (after k (Add id lits hints)) (with_clause live id lits) id
@@ -112,7 +112,7 @@ pub learnt_clean : (vars : ℕ) (live : Live) (last : ℕ) (added : List ℕ) (d
     AreLearnt vars live last added drops steps → KnowsAll k live last → IsFalse (list_any adds_empty steps) → IsCleanAfter k added drops steps
 learnt_clean vars live last added drops [] k learnt knows filled = tt
 learnt_clean vars live last added drops (Add id lits hints ∷ steps) k learnt knows filled =
-    let parts = or_parts (is_empty lits) (list_any adds_empty steps) filled in (
+    let parts = or_parts (is_empty_clause lits) (list_any adds_empty steps) filled in (
       step_accepted live last k knows vars id lits hints learnt.0 learnt.2,
       (parts.0, step_new live last k knows vars id lits hints learnt.0 learnt.2 parts.0),
       learnt_clean vars (with_clause live id lits) id (id ∷ added) drops steps (after k (Add id lits hints)) learnt.3 (step_knows live last k knows vars id lits hints learnt.0 learnt.2) parts.1,

@@ -9,7 +9,7 @@ use Rattle.proof_check.specs.Propagation.{same, is_among}
 use Rattle.sat_core.specs.declared.assigned.Assigned.{Assigned}
 use Rattle.sat_core.specs.Trails.{is_on, Implies}
 use Rattle.sat_core.specs.States.{State, IsSound}
-use Rattle.clean_logs.specs.Lemmas.{Clash, resolvent}
+use Rattle.clean_logs.specs.Lemmas.{ClashesAt, resolvent}
 use Rattle.clean_logs.specs.Lemmas.Makes.{resolved}
 use Rattle.sat_search.specs.Live.{clause_in}
 use Rattle.sat_search.specs.Passes.{IsSetWithin, is_marked, is_open, open_in, so_far, Refutes, HasOneOfLevel, IsPass, IsCleared, IsJoined, IsLive}
@@ -80,7 +80,7 @@ module _ (s : State) (sound : IsSound s) (first : ℕ) (flags : List Bool) (lits
       pass.refutes
 
   -- the two clash in the entry's variable alone
-  clash : Clash (so_far flags lits) (negated a.lit) reason
+  clash : ClashesAt (so_far flags lits) (negated a.lit) reason
   clash = record {
     one = or_left (is_marked flags (negated a.lit)) (is_among lits (negated a.lit)) was;
     other = subst (λ (l : Lit). Contains reason l) (sym (negated-negated a.lit)) implies.held;

@@ -9,7 +9,8 @@ use Rattle.cnf_types.specs.Formulas.{clause_value, value_at}
 use Rattle.proof_log.specs.declared.steps.Step.{Step}
 use Rattle.proof_log.specs.declared.steps.Step.TheVariants.{Add, Drop, Bound}
 use Rattle.proof_check.specs.Propagation.{is_among, chain_fault}
-use Rattle.proof_check.specs.Knowledge.{Knowledge, after, is_empty, with_clause, without_clauses}
+use Rattle.proof_check.specs.Knowledge.{Knowledge, after, is_empty_clause, with_clause}
+use Rattle.proof_check.specs.Knowledge.{without_clauses}
 use Rattle.proof_check.specs.Logs.{adds_empty}
 use Rattle.sat_core.specs.declared.numbered.Numbered.{Numbered}
 use Rattle.sat_core.specs.Trails.{IsOf}
@@ -108,7 +109,7 @@ pub record IsLearnt (clause : ℕ → Option (List Lit)) (vars : ℕ) (lits : Li
     (hints : List ℤ) : Type 0 where
   pub shown : chain_fault clause (is_among lits) 0 hints ≡ None
   pub live : All (IsLive clause) hints
-  pub new : IsFalse (is_empty lits) → IsNew clause lits hints
+  pub new : IsFalse (is_empty_clause lits) → IsNew clause lits hints
   pub range : All (IsOf vars) lits
   pub small : vars < 2 ^ 25
 
@@ -175,7 +176,7 @@ pub record Teaches (s : State) (old : List Step) (now : State) (new : List Step)
   pub clauses : now.clauses ≡ s.clauses ++ record { id = s.last_id + 1; lits = lits } ∷ []
   pub last : now.last_id ≡ s.last_id + 1
   pub vars : now.vars ≡ s.vars
-  pub tells : empty ≡ is_empty lits
+  pub tells : empty ≡ is_empty_clause lits
 
 -- the state gained the clause, and its trail may be another
 pub record Gains (s : State) (id : ℕ) (lits : List Lit) (now : State) : Type 0 where

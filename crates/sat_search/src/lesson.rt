@@ -20,7 +20,7 @@ use cnf_types::Lit;
 use sat_core::{Assigned, Core, Held};
 use std::alloc::Global;
 
-/// What a conflict teaches, while the pass through the trail goes on: the literals that stay, the
+/// The state of conflict analysis while it goes back through the trail: the literals that stay, the
 /// ids of the clauses that were resolved, the conflict's first, how many marked literals are of the
 /// current level, and the literals that were met, but for those of level 0.
 #[derive(Debug, Drop)]
@@ -213,9 +213,9 @@ impl Lesson {
         }
     }
 
-    /// What a conflict teaches. The literals are those that the pass through the trail leaves, with
-    /// one alone of the current level; the hints are in the order of the trail, and the conflict's
-    /// clause is the last one.
+    /// The result of conflict analysis. The literals are those that the pass through the trail
+    /// leaves, with one alone of the current level; the hints are in the order of the trail, and
+    /// the conflict's clause is the last one.
     pub fn of(
         alloc: Global,
         marks: &mut Marks,

@@ -94,7 +94,7 @@ impl Spares {
         self.is_implied(var) || (!self.is_failed(var) && self.suppose(var, parent))
     }
 
-    /// Takes a variable for implied, where there is memory for it.
+    /// Assumes that a variable is implied, if there is memory for it.
     fn suppose(&mut self, var: u64, parent: u64) -> bool {
         if self.supposed.push(var).is_err() || self.waiting.push(var).is_err() {
             return false;

@@ -19,7 +19,7 @@ use Rattle.ios_config.specs.declared.settings.ListForm.TheVariants as forms
 use Rattle.ios_config.specs.declared.settings.ListText.{ListText}
 use Rattle.net_rules.specs.Limits.{RefusesEntries}
 use Rattle.net_rules.specs.Lists.{packet_entries, route_entries}
-use Rattle.net_rules.specs.Reasons.{IsClear}
+use Rattle.net_rules.specs.Reasons.{NoRefusal}
 use Rattle.edit_list.specs.declared.edit_kinds.Edit.{Edit}
 use Rattle.edit_list.specs.declared.list_kinds.NewList.{NewList}
 use Rattle.edit_list.specs.declared.list_kinds.NewList.TheVariants as lists
@@ -133,7 +133,7 @@ module _ (net : Network) (chosen : List Edit) (router : ℕ) where
             ]
 
 module _ (doc : Document) (net : Network) (old new : List Config) (chosen : List Edit) (g : AreEdited doc net old new chosen) (room : HasRoom chosen old) where
-  pub clear_entries : IsClear (RefusesEntries 16384 new)
+  pub clear_entries : NoRefusal (RefusesEntries 16384 new)
   clear_entries r bad =
       let was = file_was doc net old new chosen g bad.place bad.config bad.at_place in
       let found = find_in (λ (list : ListText). nat_lt 16384 (length list.entries)) bad.config.lists bad.list bad.first in

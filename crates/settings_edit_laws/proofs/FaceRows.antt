@@ -18,9 +18,9 @@ use Rattle.ios_words.specs.declared.commands.Command.{Command}
 use Rattle.ios_words.specs.declared.commands.Command.TheVariants as commands
 use Rattle.ios_config.specs.declared.settings.Config.{Config}
 use Rattle.ios_config.specs.declared.settings.Given.{Given}
-use Rattle.net_rules.specs.Kinds.{kind_of, is_loopback, default_bandwidth}
+use Rattle.net_rules.specs.Kinds.{face_kind, is_loopback, default_bandwidth}
 use Rattle.net_rules.specs.declared.processes.TheConstants.{DEFAULT_REFERENCE}
-use Rattle.net_rules.specs.Settings.{value, process_of, lines_of, address_of, last_said, says_reference, cost_at, cost_of, is_passive, CommandCovers, IsEnabled}
+use Rattle.net_rules.specs.Settings.{value, process_of, lines_of, address_of, last_said, says_reference, cost_at, face_cost, is_passive, CommandCovers, IsEnabled}
 use Rattle.net_rules.specs.Sites.{Site, FullName, sites, full_name, ends_of}
 use Rattle.net_rules.specs.Lists.{IsPlaceAmong, IsListName, BindsPacketList, packet_list_key}
 use Rattle.net_rules.specs.Rows.{IsSubnet, TellsHost, IsFaceRow, host_address_of}
@@ -59,7 +59,7 @@ no_reference other h = refl
 
 -- whether OSPF advertises the own address alone of an interface of this name and type
 abbrev host_route : List ℕ → Option Bool → Bool
-host_route name point = if is_loopback (kind_of name) then not (unwrap_or point false) else false
+host_route name point = if is_loopback (face_kind name) then not (unwrap_or point false) else false
 
 -- what a command says that is not added stays
 module _ (net : Network) (chosen : List Edit) (router : ℕ) (old new : Config) (after : AreSettingsAfter net chosen router old new) (has : IsSome (process_of old)) where
@@ -169,14 +169,14 @@ module _ (doc : Document) (net : Network) (old new : List Config) (chosen : List
         let point = sa.stays.point in
         λ i. option_map (λ (a : ℕ × ℕ). (a.0, if host_route (named i) (point i) then 32 else a.1)) (address i)
 
-    cost_stays : cost_of (lines_of t.config) t.face ≡ cost_of (lines_of s.config) s.face
+    cost_stays : face_cost (lines_of t.config) t.face ≡ face_cost (lines_of s.config) s.face
     cost_stays =
         let reference : last_said says_reference (lines_of t.config) ≡ last_said says_reference (lines_of s.config) =
         same_said net chosen s.router s.config t.config sa.settings has says_reference no_reference in
         let costs = sa.stays.cost in
         let widths = sa.stays.bandwidth in
         let named = sa.stays.name in
-        λ i. unwrap_or (costs i) (cost_at (unwrap_or (reference i) DEFAULT_REFERENCE * 1000) (unwrap_or (widths i) (default_bandwidth (kind_of (named i)))))
+        λ i. unwrap_or (costs i) (cost_at (unwrap_or (reference i) DEFAULT_REFERENCE * 1000) (unwrap_or (widths i) (default_bandwidth (face_kind (named i)))))
 
     bound_flag : now.bound_in ≡ is_some t.face.list_in
     bound_flag = fa.bound_in ∙ by (is_empty (new_classes chosen k)) refl ∙ sym (is_some_value t.face.list_in ∙ ap is_some sa.list_in)

@@ -25,10 +25,10 @@ use Rattle.ios_config.specs.declared.settings.ProcessKind.{ProcessKind}
 use Rattle.ios_config.specs.declared.settings.ProcessKind.TheVariants as processes
 use Rattle.ios_config.specs.Bare.{bare_process, bare_setting}
 use Rattle.net_rules.specs.Linking.{says_router_id, router_id_line, router_id_of}
-use Rattle.net_rules.specs.Reasons.{IsClear, InFiles}
+use Rattle.net_rules.specs.Reasons.{NoRefusal, InFiles}
 use Rattle.net_rules.specs.Routers.{NamesRouter, HasNoOwnName, RefusesHostname, protocol_of_kind, protocol_of, NamesOtherProcess, RunsOther, MixesProcesses, HasNoOwnProcess, RefusesProtocol}
 use Rattle.net_rules.specs.Routers.{area_of_command}
-use Rattle.net_rules.specs.Routers.{line_area, face_area, areas_of, IsFirstArea, IsOther, NamesOtherArea, RefusesTwoAreas, Gives, Repeats, as_of_process, as_of, RefusesSameAs}
+use Rattle.net_rules.specs.Routers.{line_area, face_area, areas_of, IsFirstArea, IsOther, NamesOtherArea, RefusesTwoAreas, GivesNumber, Repeats, as_of_process, as_of, RefusesSameAs}
 use Rattle.net_rules.specs.Settings.{value, process_of, lines_of, last_said}
 use Rattle.net_rules.specs.Sites.{host_name}
 use Rattle.net_rules.proofs.HostNames.{hosts_differ}
@@ -45,7 +45,7 @@ use Rattle.settings_edit_laws.proofs.SessionFacts.{pair_at}
 use Rattle.settings_edit_laws.proofs.Sites.{given_of_value}
 
 -- an item that offends is refused
-pub offends_not : {X : Type 0} (kind : Kind) (Offends : ℕ → X → ℕ → Type 0) (items : List X) → IsClear (InFiles kind Offends items) →
+pub offends_not : {X : Type 0} (kind : Kind) (Offends : ℕ → X → ℕ → Type 0) (items : List X) → NoRefusal (InFiles kind Offends items) →
     (place : ℕ) (item : X) (number : ℕ) → slice_get items place ≡ Some item → Offends place item number → ⊥
 offends_not kind Offends items clear place item number at bad =
     clear (record { file = place + 1; number = number; kind = kind }) (record { place = place; item = item; at_place = at; number = number; offends = bad; told = refl })
@@ -144,7 +144,7 @@ first_area (c ∷ cs) = by (first_given (areas_of c)) (first_area cs)
 
 module _ (doc : Document) (net : Network) (old new : List Config) (chosen : List Edit) (g : AreEdited doc net old new chosen) where
   -- names of routers
-  pub clear_hostname : IsClear (RefusesHostname old) → IsClear (RefusesHostname new)
+  pub clear_hostname : NoRefusal (RefusesHostname old) → NoRefusal (RefusesHostname new)
   clear_hostname clear r bad = by bad.item.hostname refl bad.offends
     where
       was : FileWas net chosen old bad.place bad.item
@@ -189,7 +189,7 @@ module _ (doc : Document) (net : Network) (old new : List Config) (chosen : List
       by (c ∷ cs) [] each whole = absurd (omega (arith, whole))
       by (c ∷ cs) (d ∷ ds) each whole = ap (λ o. unwrap_or o Ospf) (kind_stays 0 (process_of c) (process_of d) (process_after net chosen 0 c d (each c d refl refl)))
 
-  pub clear_protocol : IsClear (RefusesProtocol old) → IsClear (RefusesProtocol new)
+  pub clear_protocol : NoRefusal (RefusesProtocol old) → NoRefusal (RefusesProtocol new)
   clear_protocol clear r bad = by (process_of bad.item) refl bad.offends (process_of was.config) refl (process_after net chosen bad.place was.config bad.item was.after)
     where
       was : FileWas net chosen old bad.place bad.item
@@ -291,7 +291,7 @@ module _ (doc : Document) (net : Network) (old new : List Config) (chosen : List
     area_was given there = elim (Contains-append_cases (filter_map line_area (lines_of d)) (filter_map face_area d.faces) given there)
         [ inl line ↦ line_area_was given line | inr face ↦ face_area_was given face ]
 
-  pub clear_areas : IsClear (RefusesTwoAreas old) → IsClear (RefusesTwoAreas new)
+  pub clear_areas : NoRefusal (RefusesTwoAreas old) → NoRefusal (RefusesTwoAreas new)
   clear_areas clear r bad = by (first_area old)
     where
       o : NamesOtherArea new bad.item bad.number
@@ -323,7 +323,7 @@ module _ (doc : Document) (net : Network) (old new : List Config) (chosen : List
   -- numbers that may not repeat
   repeats_not : (kind : Kind) (number_of : Config → Option (Given ℕ)) →
       ((k : ℕ) (c d : Config) → slice_get old k ≡ Some c → AreSettingsAfter net chosen k c d → value (number_of d) ≡ value (number_of c)) →
-      IsClear (InFiles kind (Repeats number_of old) old) → IsClear (InFiles kind (Repeats number_of new) new)
+      NoRefusal (InFiles kind (Repeats number_of old) old) → NoRefusal (InFiles kind (Repeats number_of new) new)
   repeats_not kind number_of stays clear r bad = by (number_of bad.item) refl bad.offends
     where
       was : FileWas net chosen old bad.place bad.item
@@ -337,17 +337,17 @@ module _ (doc : Document) (net : Network) (old new : List Config) (chosen : List
       gives_back None n e = none-some n e
       gives_back (Some x) n e = same_Some x.value n e
 
-      by : (o : Option (Given ℕ)) → number_of bad.item ≡ o → IsSomeAnd o (λ given. (bad.number ≡ given.line) × Any (Gives number_of given.value) (take bad.place new)) → ⊥
+      by : (o : Option (Given ℕ)) → number_of bad.item ≡ o → IsSomeAnd o (λ given. (bad.number ≡ given.line) × Any (GivesNumber number_of given.value) (take bad.place new)) → ⊥
       by None e h = h
       by (Some x) e h =
           let given = given_of_value (number_of was.config) x.value (sym (stays bad.place was.config bad.item was.at was.after) ∙ ap value e) in
-          let t = taken_any (Gives number_of x.value) new bad.place h.1 in
+          let t = taken_any (GivesNumber number_of x.value) new bad.place h.1 in
           let first = file_was doc net old new chosen g t.0 t.1 t.3 in
           let same : value (number_of first.config) ≡ Some x.value = sym (stays t.0 first.config t.1 first.at first.after) ∙ gives (number_of t.1) x.value t.4 in
-          let again : Any (Gives number_of given.0.value) (take bad.place old) =
-          any_taken (Gives number_of given.0.value) old bad.place t.0 first.config t.2 first.at (gives_back (number_of first.config) given.0.value (same ∙ ap Some (sym given.2))) in
+          let again : Any (GivesNumber number_of given.0.value) (take bad.place old) =
+          any_taken (GivesNumber number_of given.0.value) old bad.place t.0 first.config t.2 first.at (gives_back (number_of first.config) given.0.value (same ∙ ap Some (sym given.2))) in
           offends_not kind (Repeats number_of old) old clear bad.place was.config given.0.line was.at
-          (subst (λ (q : Option (Given ℕ)). IsSomeAnd q (λ y. (given.0.line ≡ y.line) × Any (Gives number_of y.value) (take bad.place old))) (sym given.1) (refl, again))
+          (subst (λ (q : Option (Given ℕ)). IsSomeAnd q (λ y. (given.0.line ≡ y.line) × Any (GivesNumber number_of y.value) (take bad.place old))) (sym given.1) (refl, again))
 
   as_stays : (k : ℕ) (c d : Config) → slice_get old k ≡ Some c → AreSettingsAfter net chosen k c d → value (as_of d) ≡ value (as_of c)
   as_stays k c d at after = by (process_of c) (process_of d) (process_after net chosen k c d after)
@@ -363,7 +363,7 @@ module _ (doc : Document) (net : Network) (old new : List Config) (chosen : List
       by (Some p) None h = absurd h
       by (Some p) (Some q) h = ap (λ (j : ProcessKind). value (as_of_process j q)) (ap (λ (x : ProcessText). x.kind) h) ∙ of_kind p.kind p q (ap (λ (x : ProcessText). x.number) h)
 
-  pub clear_same_as : IsClear (RefusesSameAs old) → IsClear (RefusesSameAs new)
+  pub clear_same_as : NoRefusal (RefusesSameAs old) → NoRefusal (RefusesSameAs new)
   clear_same_as = repeats_not kinds.SameAs as_of as_stays
 
   router_id_stays : (k : ℕ) (c d : Config) → slice_get old k ≡ Some c → AreSettingsAfter net chosen k c d → value (router_id_of d) ≡ value (router_id_of c)
@@ -385,5 +385,5 @@ module _ (doc : Document) (net : Network) (old new : List Config) (chosen : List
       by_lines : (lines : List (Given Command)) (o : Option (Given ℕ)) → value (last_or None (filter_map router_id_line lines)) ≡ last_said says_router_id lines
       by_lines lines o = by_all lines None None refl
 
-  pub clear_router_ids : IsClear (InFiles kinds.AdjacencyForm (Repeats router_id_of old) old) → IsClear (InFiles kinds.AdjacencyForm (Repeats router_id_of new) new)
+  pub clear_router_ids : NoRefusal (InFiles kinds.AdjacencyForm (Repeats router_id_of old) old) → NoRefusal (InFiles kinds.AdjacencyForm (Repeats router_id_of new) new)
   clear_router_ids = repeats_not kinds.AdjacencyForm router_id_of router_id_stays

@@ -14,9 +14,9 @@ use Rattle.ios_config.specs.declared.settings.ProcessText.{ProcessText}
 use Rattle.net_rules.specs.Forms.{IsWellFormed}
 use Rattle.net_rules.specs.Lists.{packet_list_key, route_list_key, ArePacketLists, AreRouteLists}
 use Rattle.arc_base.specs.Lists.{AreDistinct}
-use Rattle.net_build.specs.Networks.{Says, IsNetworkOf}
+use Rattle.net_build.specs.Networks.{HasSettings, IsNetworkOf}
 use Rattle.net_build.specs.Order.{tries, Refuses, AreClear}
-use Rattle.net_rules.specs.Reasons.{IsClear}
+use Rattle.net_rules.specs.Reasons.{NoRefusal}
 use Rattle.net_rules.specs.Linking.{RefusesAdjacencyForm}
 use Rattle.net_rules.specs.Routers.{HasNoOwnProcess, MixesProcesses, protocol_of, RefusesProtocol}
 use Rattle.net_rules.specs.Rows.{AreRows, AreSessions, IsRouterRow, IsFaceRow, IsLinkRow}
@@ -137,12 +137,12 @@ module _ (doc : Document) (net : Network) (old new : List Config) (chosen : List
           ),
         )
       where
-        adjacency : IsClear (RefusesAdjacencyForm doc old) → IsClear (RefusesAdjacencyForm doc new)
+        adjacency : NoRefusal (RefusesAdjacencyForm doc old) → NoRefusal (RefusesAdjacencyForm doc new)
         adjacency h r (inl types) = clear_types doc net old new chosen g after is valid_after rows_are distinct (λ s bad. h s (inl bad)) r types
         adjacency h r (inr ids) = clear_router_ids doc net old new chosen g (λ s bad. h s (inr bad)) r ids
 
 -- each router has a process where nothing is refused
-all_processes : (configs : List Config) → IsClear (RefusesProtocol configs) → (k : ℕ) (c : Config) → slice_get configs k ≡ Some c → IsSome (process_of c)
+all_processes : (configs : List Config) → NoRefusal (RefusesProtocol configs) → (k : ℕ) (c : Config) → slice_get configs k ≡ Some c → IsSome (process_of c)
 all_processes configs clear k c at = by (process_of c) refl
   where
     refused : (line : ℕ) → line ≡ 0 → process_of c ≡ None → ⊥
@@ -155,7 +155,7 @@ all_processes configs clear k c at = by (process_of c) refl
     by None e = let line : ℕ = 0 in absurd (refused line refl e)
 
 pub network_is_after : (doc : Document) (files new_files : List (List ℕ)) (net : Network) (is : IsNetworkOf doc files net) (chosen : List Edit) (new : List Config) (after : Network) →
-    IsValid net → IsCountable net → AreFitting net chosen → HasRoom chosen is.configs → AllZip Says new_files new →
+    IsValid net → IsCountable net → AreFitting net chosen → HasRoom chosen is.configs → AllZip HasSettings new_files new →
     AreAllSettingsAfter net chosen is.configs new → IsAfter net chosen after → IsValid after →
     IsNetworkOf doc new_files after
 network_is_after doc files new_files net is chosen new after valid small fits room said settings is_after valid_after =

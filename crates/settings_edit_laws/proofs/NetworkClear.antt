@@ -16,11 +16,11 @@ use Rattle.net_model.specs.Validity.{IsValid}
 use Rattle.ios_config.specs.declared.settings.Config.{Config}
 use Rattle.ios_config.specs.declared.settings.FaceText.{FaceText}
 use Rattle.net_rules.specs.Addressing.{Overlap, RefusesOverlap, HasEndpoints, RefusesEndpoint}
-use Rattle.net_rules.specs.Kinds.{kind_of, is_serial}
+use Rattle.net_rules.specs.Kinds.{face_kind, is_serial}
 use Rattle.net_rules.specs.Limits.{RefusesInterfaces}
 use Rattle.net_rules.specs.Linking.{JoinsFree, RefusesLinkFace, FitsSubnets, RefusesLinkSubnets, HasTypeAt, TypesDiffer, RefusesTypes}
 use Rattle.arc_base.specs.Lists.{AreDistinct}
-use Rattle.net_rules.specs.Reasons.{IsClear, InDocument}
+use Rattle.net_rules.specs.Reasons.{NoRefusal, InDocument}
 use Rattle.net_rules.specs.Rows.{AreRows}
 use Rattle.net_rules.specs.Settings.{is_point_to_point}
 use Rattle.net_rules.specs.Sites.{Site, FullName, sites, full_names}
@@ -36,16 +36,16 @@ point_stays : (f h : FaceText) → FaceStays f h → is_point_to_point h ≡ is_
 point_stays f h s =
     let point = s.point in
     let named = s.name in
-    λ i. unwrap_or (point i) (is_serial (kind_of (named i)))
+    λ i. unwrap_or (point i) (is_serial (face_kind (named i)))
 
 module _ (doc : Document) (net : Network) (old new : List Config) (chosen : List Edit) (g : AreEdited doc net old new chosen) where
   names : full_names new ≡ full_names old
   names = full_names_stay net chosen old new g.settings
 
-  pub clear_link_face : IsClear (RefusesLinkFace doc old) → IsClear (RefusesLinkFace doc new)
-  clear_link_face clear = subst (λ (l : List FullName). IsClear (InDocument kinds.LinkFace (λ (place : ℕ) (link : LinkText). ¬ JoinsFree l (take place doc.links) link) doc.links)) (sym names) clear
+  pub clear_link_face : NoRefusal (RefusesLinkFace doc old) → NoRefusal (RefusesLinkFace doc new)
+  clear_link_face clear = subst (λ (l : List FullName). NoRefusal (InDocument kinds.LinkFace (λ (place : ℕ) (link : LinkText). ¬ JoinsFree l (take place doc.links) link) doc.links)) (sym names) clear
 
-  pub clear_interfaces : IsClear (RefusesInterfaces old) → IsClear (RefusesInterfaces new)
+  pub clear_interfaces : NoRefusal (RefusesInterfaces old) → NoRefusal (RefusesInterfaces new)
   clear_interfaces clear r bad =
       let was = file_was doc net old new chosen g bad.place bad.config bad.at_place in
       let count : length bad.config.faces ≡ length was.config.faces = faces_count net chosen bad.place was.config bad.config was.after in
@@ -56,7 +56,7 @@ module _ (doc : Document) (net : Network) (old new : List Config) (chosen : List
     pub one : (other : Network) → AreRows doc new other → other ≡ after
     one other others = same_rows doc new (subst (λ (l : List FullName). AreDistinct l) (sym names) distinct) other after others rows
 
-    pub clear_overlap : IsClear (RefusesOverlap doc new)
+    pub clear_overlap : NoRefusal (RefusesOverlap doc new)
     clear_overlap r bad =
         let overlap : Overlap after bad.overlaps.0 bad.place = subst (λ (n : Network). Overlap n bad.overlaps.0 bad.place) (one bad.net bad.rows) bad.overlaps.2 in
         let apart : bad.overlaps.0 ≢ bad.place = λ same. omega (arith, same, bad.overlaps.1) in
@@ -81,7 +81,7 @@ module _ (doc : Document) (net : Network) (old new : List Config) (chosen : List
         (subst (λ (o : Option Prefix). IfSome a.0.addr (λ x. IfSome b.0.addr (λ y. (x ≢ y) × (o ≡ h.subnet)))) (sym net_f)
         (subst (λ (o : Option Prefix). IfSome a.0.addr (λ x. IfSome b.0.addr (λ y. (x ≢ y) × (a.0.subnet ≡ o)))) (sym net_h) (fits a.0 b.0 a.1 b.1))))
 
-    pub clear_link_subnets : IsClear (RefusesLinkSubnets doc old) → IsClear (RefusesLinkSubnets doc new)
+    pub clear_link_subnets : NoRefusal (RefusesLinkSubnets doc old) → NoRefusal (RefusesLinkSubnets doc new)
     clear_link_subnets clear r bad =
         let refuses : InDocument kinds.LinkSubnets (λ (place : ℕ) (link : LinkRow). ¬ FitsSubnets after link) after.links r =
         subst (λ (n : Network). InDocument kinds.LinkSubnets (λ (place : ℕ) (link : LinkRow). ¬ FitsSubnets n link) n.links r) (one bad.net bad.rows) bad.refuses in
@@ -110,7 +110,7 @@ module _ (doc : Document) (net : Network) (old new : List Config) (chosen : List
     types_was link (inl h) = inl (type_was link.a.0 true h.0, type_was link.b.0 false h.1)
     types_was link (inr h) = inr (type_was link.a.0 false h.0, type_was link.b.0 true h.1)
 
-    pub clear_types : IsClear (RefusesTypes doc old) → IsClear (RefusesTypes doc new)
+    pub clear_types : NoRefusal (RefusesTypes doc old) → NoRefusal (RefusesTypes doc new)
     clear_types clear r bad =
         let refuses : InDocument kinds.AdjacencyForm (λ (place : ℕ) (link : LinkRow). TypesDiffer new link) after.links r =
         subst (λ (n : Network). InDocument kinds.AdjacencyForm (λ (place : ℕ) (link : LinkRow). TypesDiffer new link) n.links r) (one bad.net bad.rows) bad.refuses in
@@ -134,7 +134,7 @@ module _ (doc : Document) (net : Network) (old new : List Config) (chosen : List
     endpoints_now : (origin destination : Prefix) → HasEndpoints net origin destination → HasEndpoints after origin destination
     endpoints_now origin destination h = record { source = h.source; target = h.target; from = host_now origin h.source h.from; to = host_now destination h.target h.to; apart = h.apart }
 
-    pub clear_endpoint : IsClear (RefusesEndpoint doc old) → IsClear (RefusesEndpoint doc new)
+    pub clear_endpoint : NoRefusal (RefusesEndpoint doc old) → NoRefusal (RefusesEndpoint doc new)
     clear_endpoint clear r bad =
         let refuses : InDocument kinds.Endpoint (λ (place : ℕ) (policy : Policy). ¬ HasEndpoints after policy.from policy.to) doc.policies r =
         subst (λ (n : Network). InDocument kinds.Endpoint (λ (place : ℕ) (policy : Policy). ¬ HasEndpoints n policy.from policy.to) doc.policies r) (one bad.net bad.rows) bad.refuses in

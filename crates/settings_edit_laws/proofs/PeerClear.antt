@@ -23,7 +23,7 @@ use Rattle.ios_config.specs.declared.settings.FaceText.{FaceText}
 use Rattle.ios_config.specs.declared.settings.Given.{Given}
 use Rattle.net_rules.specs.Neighbors.{names_peer, says_remote}
 use Rattle.net_rules.specs.Peers.{IsKnown, NamesOther, RefusesNeighbor, IsConnectedAt, IsConnected, TellsUnconnected, RefusesNetwork}
-use Rattle.net_rules.specs.Reasons.{IsClear}
+use Rattle.net_rules.specs.Reasons.{NoRefusal}
 use Rattle.net_rules.specs.Rows.{IsLinkRow, IsSubnet}
 use Rattle.net_rules.specs.Settings.{lines_of}
 use Rattle.net_rules.specs.Sites.{FullName, sites, full_names, full_name, host_name, a_end, b_end, AreJoined}
@@ -152,7 +152,7 @@ module _ (doc : Document) (net : Network) (old new : List Config) (chosen : List
       | inr filter ↦ of_filter x filter named
     ]
 
-  pub clear_neighbors : IsClear (RefusesNeighbor doc old) → IsClear (RefusesNeighbor doc new)
+  pub clear_neighbors : NoRefusal (RefusesNeighbor doc old) → NoRefusal (RefusesNeighbor doc new)
   clear_neighbors clear r bad = by (Contains-append_cases (commands_of (lines_of was.config)) (turning_lines net chosen bad.place ++ filter_lines net chosen bad.place) line.0.value there)
     where
       was : FileWas net chosen old bad.place bad.item
@@ -180,7 +180,7 @@ module _ (doc : Document) (net : Network) (old new : List Config) (chosen : List
           (any_of (NamesOther (IsKnown doc old was.config) first.0.line) (lines_of was.config) first.0 first.1 (refl, (peer, ap names_peer first.2 ∙ line.2.1.1, unknown)))
       by (inr added) = unknown (added_known bad.place was.config was.at peer line.0.value added line.2.1.1)
 
-  pub clear_networks : IsClear (RefusesNetwork old) → IsClear (RefusesNetwork new)
+  pub clear_networks : NoRefusal (RefusesNetwork old) → NoRefusal (RefusesNetwork new)
   clear_networks clear r bad =
       let first = of_any (λ (x : Given Command). x.value ≡ commands.Tells p) (lines_of was.config)
       (any_was net chosen bad.place was.config bad.item was.after (g.processes bad.place was.config was.at) (λ (c : Command). c ≡ commands.Tells p) (λ c added is. not_tells c added (p, is))

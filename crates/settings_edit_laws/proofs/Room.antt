@@ -11,7 +11,7 @@ use Rattle.net_model.proofs.Readings.{place_of_item}
 use Rattle.ios_config.specs.declared.settings.Config.{Config}
 use Rattle.ios_config.specs.declared.settings.ListText.{ListText}
 use Rattle.net_rules.specs.Limits.{RefusesEntries, long_list}
-use Rattle.net_rules.specs.Reasons.{IsClear}
+use Rattle.net_rules.specs.Reasons.{NoRefusal}
 use Rattle.edit_list.specs.declared.edit_kinds.Edit.{Edit}
 use Rattle.edit_list.specs.Prices.{if_chosen, chosen_of}
 use Rattle.edit_list.proofs.Counts.{few_picked}
@@ -32,7 +32,8 @@ few_zipped [] ys = omega arith
 few_zipped (x ∷ xs) [] = omega arith
 few_zipped (x ∷ xs) (y ∷ ys) = omega (arith, few_zipped xs ys)
 
-list_short : (configs : List Config) → IsClear (RefusesEntries 2048 configs) → (config : Config) → Contains configs config → (list : ListText) → Contains config.lists list → length list.entries ≤ 2048
+list_short : (configs : List Config) → NoRefusal (RefusesEntries 2048 configs) → (config : Config) → Contains configs config → (list : ListText) → Contains config.lists list →
+    length list.entries ≤ 2048
 list_short configs clear config in_files list in_file = elim (cases_lt 2048 (length list.entries)) [
   | inl long ↦ absurd (by (long_list 2048 config) refl (lt-ltb 2048 (length list.entries) long))
   | inr short ↦ short
@@ -47,7 +48,7 @@ list_short configs clear config in_files list in_file = elim (cases_lt 2048 (len
         clear (record { file = at.0 + 1; number = 0; kind = kinds.Limit limits.Entries (length first.entries) })
         (record { place = at.0; config = config; at_place = at.1; list = first; first = e; told = refl })
 
-pub room_within : (configs : List Config) (list : List Edit) (flags : List Bool) → IsClear (RefusesEntries 2048 configs) → length list ≤ 8192 → HasRoom (chosen_of list flags) configs
+pub room_within : (configs : List Config) (list : List Edit) (flags : List Bool) → NoRefusal (RefusesEntries 2048 configs) → length list ≤ 8192 → HasRoom (chosen_of list flags) configs
 room_within configs list flags clear few =
     let chosen : length (chosen_of list flags) ≤ 8192 = omega (arith, few_picked if_chosen (zip list flags), few_zipped list flags, few) in
     record {

@@ -26,7 +26,7 @@ use Rattle.net_model.specs.declared.rows.Protocol.TheVariants.{Ospf, Bgp}
 use Rattle.net_model.specs.declared.services.Service.{Service}
 use Rattle.net_model.specs.Forwarding.{HasHost}
 use Rattle.net_model.specs.Lists.{matches, permits}
-use Rattle.net_model.specs.Packets.{IsOf}
+use Rattle.net_model.specs.Packets.{IsOfClass}
 use Rattle.net_model.specs.Services.{Serves, serves, whole_service}
 use Rattle.net_model.specs.Routing.{Arc, IsArc, IsAbleEnd, TakesPart, Names, session_at, tail_end, tail_face, head_face}
 use Rattle.net_model.specs.Validity.{EndsAt, IsLinkEnd, AreApart}
@@ -34,7 +34,7 @@ use Rattle.net_model.proofs.Readings.{item_at_place, place_of_item}
 use Rattle.net_model.proofs.ServiceRanges.{bounds, serve}
 use Rattle.ios_config.specs.declared.settings.Config.{Config}
 use Rattle.net_rules.specs.Lists.{IsPlaceAmong, packet_list_key}
-use Rattle.net_rules.specs.Reasons.{IsClear}
+use Rattle.net_rules.specs.Reasons.{NoRefusal}
 use Rattle.net_rules.specs.Rows.{AreRows, IsSubnet}
 use Rattle.net_rules.specs.Settings.{value, address_of}
 use Rattle.net_rules.specs.Sites.{Site}
@@ -77,7 +77,7 @@ every_matches p small =
     (and_from (holds any p.from) (holds any p.to) (any_holds p.from small.from) (any_holds p.to small.to)) (serve whole_service p.service (omega arith) (omega (arith, service)))
 
 -- a new list permits each packet that is of none of its classes
-new_list_permits : (classes : List Class) (p : Packet) → IsSmall p → ((class : Class) → Contains classes class → ¬ IsOf class p) → permits (new_packet_entries classes) p ≡ true
+new_list_permits : (classes : List Class) (p : Packet) → IsSmall p → ((class : Class) → Contains classes class → ¬ IsOfClass class p) → permits (new_packet_entries classes) p ≡ true
 new_list_permits [] p small none = ap (λ b. option_map_or (λ (e : PacketEntry). e.permit) (cond b (Some every_packet) None) false) (every_matches p small)
 new_list_permits (c ∷ cs) p small none =
     ap (λ b. option_map_or (λ (e : PacketEntry). e.permit) (cond b (Some (class_entry false c)) (find (matches p) (new_packet_entries cs))) false)
@@ -239,7 +239,7 @@ module _ (doc : Document) (net : Network) (old new : List Config) (chosen : List
     own_small = let q = own_subnet (head_face arc).0 head_was.0 stops.own head_was.1 own_was in held_small q.0 stops.own q.2
 
     -- a class of the edits has no packet of the protocol
-    of_no_class : (class : Class) → HasHost net class.from → (p : Packet) → p.from ≡ stops.from → ¬ IsOf class p
+    of_no_class : (class : Class) → HasHost net class.from → (p : Packet) → p.from ≡ stops.from → ¬ IsOfClass class p
     of_no_class class host p source of =
         not_in_host class.from host (tail_face arc).0 tail_was.0 stops.from tail_was.1 tail_is_end from_was (subst (λ (a : ℕ). Holds class.from a) source of.0)
 
@@ -322,7 +322,7 @@ module _ (doc : Document) (net : Network) (old new : List Config) (chosen : List
           (sym stops_before.bound) stops_before.denies;
     }
 
-    refused_before : IsClear (RefusesListStopsSession doc old) → ⊥
+    refused_before : NoRefusal (RefusesListStopsSession doc old) → ⊥
     refused_before clear =
         let s = face_site doc net old new chosen g (head_face arc).0 head_was.0 head_was.1 in
         let line = bound_line s.0 (value s.0.face.list_in) refl
@@ -346,7 +346,7 @@ module _ (doc : Document) (net : Network) (old new : List Config) (chosen : List
         bound_line s None e h = absurd h
         bound_line s (Some name) e h = let v = given_of_value s.face.list_in name e in (v.0, v.1)
 
-  pub clear_stops : IsClear (RefusesListStopsSession doc old) → IsClear (RefusesListStopsSession doc new)
+  pub clear_stops : NoRefusal (RefusesListStopsSession doc old) → NoRefusal (RefusesListStopsSession doc new)
   clear_stops clear r bad =
       let same = one bad.net bad.rows in
       refused_before bad.arc (subst (λ (n : Network). IsArc n bad.arc) same bad.is_arc) (subst (λ (n : Network). IsAble n bad.arc) same bad.able)

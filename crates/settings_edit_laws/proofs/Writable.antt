@@ -24,7 +24,7 @@ use Rattle.ios_config.specs.Commands.{command_lines, IsReadAs}
 use Rattle.ios_config.specs.Configs.{IsConfigOf}
 use Rattle.ios_config.specs.Groups.{is_same, part_of, distinct}
 use Rattle.net_rules.specs.Lists.{packet_list_key, route_list_key}
-use Rattle.net_build.specs.Networks.{Says, IsNetworkOf}
+use Rattle.net_build.specs.Networks.{HasSettings, IsNetworkOf}
 use Rattle.net_rules.specs.Rows.{IsFaceRow, IsSubnet, IsSession, AreSessions}
 use Rattle.net_rules.specs.Settings.{address_of}
 use Rattle.net_rules.specs.Sites.{sites, ends_of}
@@ -53,7 +53,7 @@ module _ (doc : Document) (files : List (List ℕ)) (net : Network) (is : IsNetw
   faces_written place row at =
       let s = AllZip-left (IsFaceRow net.protocol (ends_of doc.links) (map packet_list_key net.packet_lists)) (sites is.configs) net.faces is.rows.base.faces place row at in
       let file = site_of is.configs place s.0 s.1 in
-      let said = AllZip-left Says files is.configs is.said s.0.router s.0.config file.file_at in
+      let said = AllZip-left HasSettings files is.configs is.said s.0.router s.0.config file.file_at in
       subst (λ (n : List ℕ). IsTrue (is_face_name n)) (sym s.2.name) (face_tested said.0 said.2.lines s.0.config said.2.is_config s.0.face file.listed)
 
   session_of : (s : SessionRow) → (p : Protocol) (ss : List SessionRow) → AreSessions p is.configs net.links (map route_list_key net.route_lists) ss →

@@ -10,8 +10,8 @@ use Rattle.net_model.specs.Packets.{subject}
 use Rattle.net_model.specs.Validity.{IsValid}
 use Rattle.ios_config.specs.declared.settings.Config.{Config}
 use Rattle.net_rules.specs.Limits.{RefusesEntries}
-use Rattle.net_rules.specs.Reasons.{IsClear}
-use Rattle.net_build.specs.Networks.{Says, IsNetworkOf}
+use Rattle.net_rules.specs.Reasons.{NoRefusal}
+use Rattle.net_build.specs.Networks.{HasSettings, IsNetworkOf}
 use Rattle.edit_list.specs.declared.edit_kinds.Edit.{Edit}
 use Rattle.edit_list.specs.After.{IsAfter}
 use Rattle.edit_list.specs.Determined.{IsCountable}
@@ -27,7 +27,7 @@ SettingsHaveTheNetwork =
     (doc : Document) (files patched : List (List ℕ)) (net : Network)
     (was : IsNetworkOf doc files net) (chosen : List Edit) (new : List Config) (after : Network) →
     IsValid net → IsCountable net → AreFitting net chosen → HasRoom chosen was.configs →
-    AllZip Says patched new → AreAllSettingsAfter net chosen was.configs new →
+    AllZip HasSettings patched new → AreAllSettingsAfter net chosen was.configs new →
     IsAfter net chosen after → IsNetworkOf doc patched after
 
 -- the edits of a network for a document are fitting, where the policies go from one host network to
@@ -43,7 +43,7 @@ EditsAreFitting =
 abbrev pub ShortListsHaveRoom : Type 0
 ShortListsHaveRoom =
     (configs : List Config) (list : List Edit) (flags : List Bool) →
-    IsClear (RefusesEntries EDITED_ENTRY_LIMIT configs) →
+    NoRefusal (RefusesEntries EDITED_ENTRY_LIMIT configs) →
     length list ≤ EDIT_LIMIT → HasRoom (chosen_of list flags) configs
 
 -- a file to which the edits add nothing has its own settings after them

@@ -16,7 +16,7 @@ use Rattle.net_model.specs.declared.rows.Network.{Network}
 use Rattle.net_model.specs.declared.services.Service.{Service}
 use Rattle.net_model.specs.Services.{serves}
 use Rattle.net_model.specs.Lists.{matches, permits}
-use Rattle.net_model.specs.Packets.{IsOf}
+use Rattle.net_model.specs.Packets.{IsOfClass}
 use Rattle.net_model.specs.Witnesses.{IsUniform, IsUniformFor}
 use Rattle.traffic_classes.specs.Leaves.{IsSplit}
 use Rattle.traffic_classes.specs.ServiceLeaves.{IsCut}
@@ -64,7 +64,7 @@ pub own_mark : (s : Service) → Contains (marks_of s) s
 own_mark s = Contains-head s _
 
 module _ (sources destinations : List Prefix) (services : List Service) (class : Class) (from : ¬ IsSplit sources class.from) (to : ¬ IsSplit destinations class.to)
-    (of_services : ¬ IsCut services class.service) (p q : Packet) (of_p : IsOf class p) (of_q : IsOf class q) where
+    (of_services : ¬ IsCut services class.service) (p q : Packet) (of_p : IsOfClass class p) (of_q : IsOfClass class q) where
   match_alike : (e : PacketEntry) → Contains sources e.from → Contains destinations e.to → Contains services e.service → matches p e ≡ matches q e
   match_alike e in_from in_to in_services =
       ap (λ (b : Bool). (b && holds e.to p.to) && serves e.service p.service) (holds_alike sources e.from class.from in_from from p.from q.from (of_p.0) (of_q.0)) ∙

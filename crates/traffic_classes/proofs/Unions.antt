@@ -17,7 +17,7 @@ use Rattle.arc_base.proofs.Agreement.{Holds-first, inside-IsInside}
 use Rattle.net_model.specs.declared.policies.Class.{Class}
 use Rattle.net_model.specs.declared.policies.Policy.{Policy}
 use Rattle.net_model.specs.declared.rows.Network.{Network}
-use Rattle.net_model.specs.Packets.{IsOf, LiesIn, ShareNoPacket, first_packet, subject}
+use Rattle.net_model.specs.Packets.{IsOfClass, LiesIn, ShareNoPacket, first_packet, subject}
 use Rattle.net_model.specs.Services.{is_service_inside}
 use Rattle.net_model.specs.Witnesses.{IsUniformFor}
 use Rattle.net_model.proofs.Packets.{first_is_of}
@@ -26,7 +26,7 @@ use Rattle.traffic_classes.specs.declared.fault.ClassFault.{ClassFault}
 use Rattle.traffic_classes.specs.declared.fault.ClassFault.TheVariants.{TooMany, Memory}
 use Rattle.traffic_classes.specs.Classes.{AreClasses, CountsMore, told}
 use Rattle.traffic_classes.specs.Parts.{MakeUp, HasPacket, IsClassOf}
-use Rattle.traffic_classes.specs.AllClasses.{is_same, with_class, each_once, AreAllClasses, FirstHaveMore, lies_off}
+use Rattle.traffic_classes.specs.AllClasses.{is_same_class, with_class, each_once, AreAllClasses, FirstHaveMore, lies_off}
 use Rattle.traffic_classes.specs.Laws.{HaveOneListOfClasses, AllClassesTellApart}
 use Rattle.arc_base.proofs.Items.{Contains-head, Contains-tail, Contains-none, Contains-cases, Contains-filter, from_filter}
 use Rattle.arc_base.proofs.Items.{Contains-piece, from_piece, All-from, AllPairs-append, AllPairs-among, AllPairs-none}
@@ -35,14 +35,14 @@ use Rattle.traffic_classes.proofs.Sameness.{is_same-Decides, is_same-IsEquivalen
 use Rattle.traffic_classes.proofs.MakingUp.{make_up, disjoint_classes, equal_or_disjoint, one_list, some_list}
 
 abbrev pub Differ : Class → Class → Type 0
-Differ c d = is_same c d ≡ false
+Differ c d = is_same_class c d ≡ false
 
 differ_unless : (b : Bool) → (b ≡ true → ⊥) → b ≡ false
 differ_unless true f = absurd (f refl)
 differ_unless false f = refl
 
 differ : (c d : Class) → (c ≡ d → ⊥) → Differ c d
-differ c d f = differ_unless (is_same c d) (λ t. f ((is_same-Decides c d).0 t))
+differ c d f = differ_unless (is_same_class c d) (λ t. f ((is_same-Decides c d).0 t))
 
 not_off : (b : Bool) → not b ≡ false → b ≡ true
 not_off true e = refl
@@ -56,13 +56,13 @@ zip_push R (a ∷ xs) (b ∷ ys) x y z r = (z.0, zip_push R xs ys x y (z.1) r)
 
 -- classes that share no packet differ
 pub apart_differ : (c d : Class) → ShareNoPacket c d → Differ c d
-apart_differ c d none = differ c d (λ e. none (first_packet c) (first_is_of c) (subst (λ (x : Class). IsOf x (first_packet c)) e (first_is_of c)))
+apart_differ c d none = differ c d (λ e. none (first_packet c) (first_is_of c) (subst (λ (x : Class). IsOfClass x (first_packet c)) e (first_is_of c)))
 
-any_there : (c : Class) (ds : List Class) → list_any (is_same c) ds ≡ true → Contains ds c
+any_there : (c : Class) (ds : List Class) → list_any (is_same_class c) ds ≡ true → Contains ds c
 any_there c ds t = (is_member-Decides is_same-Decides ds c).0 t
 
 -- adding a class to a list
-step : (ds : List Class) (c : Class) (b : Bool) → list_any (is_same c) ds ≡ b →
+step : (ds : List Class) (c : Class) (b : Bool) → list_any (is_same_class c) ds ≡ b →
     (((q : Class) → Contains (if b then ds else ds ++ c ∷ []) q → Contains ds q ⊎ (c ≡ q)) ×
     ((q : Class) → Contains ds q ⊎ (c ≡ q) → Contains (if b then ds else ds ++ c ∷ []) q)) ×
     (AllPairs Differ ds → AllPairs Differ (if b then ds else ds ++ c ∷ []))
@@ -89,7 +89,7 @@ pub to_fold : (ds cs : List Class) (q : Class) → Contains (fold with_class ds 
 to_fold ds [] q h = inl h
 to_fold ds (c ∷ cs) q h =
     elim (to_fold (with_class ds c) cs q h) [
-      | inl there ↦ elim (((step ds c (list_any (is_same c) ds) refl).0).0 q there) [
+      | inl there ↦ elim (((step ds c (list_any (is_same_class c) ds) refl).0).0 q there) [
         | inl old ↦ inl old
         | inr e ↦ inr (subst (λ (x : Class). Contains (c ∷ cs) x) e (Contains-head c cs))
       ]
@@ -99,16 +99,16 @@ to_fold ds (c ∷ cs) q h =
 pub from_fold : (ds cs : List Class) (q : Class) → Contains ds q ⊎ Contains cs q → Contains (fold with_class ds cs) q
 from_fold ds [] q (inl h) = h
 from_fold ds [] q (inr h) = absurd (Contains-none q h)
-from_fold ds (c ∷ cs) q (inl h) = from_fold (with_class ds c) cs q (inl (((step ds c (list_any (is_same c) ds) refl).0).1 q (inl h)))
+from_fold ds (c ∷ cs) q (inl h) = from_fold (with_class ds c) cs q (inl (((step ds c (list_any (is_same_class c) ds) refl).0).1 q (inl h)))
 from_fold ds (c ∷ cs) q (inr h) =
     elim (Contains-cases c q cs h) [
-      | inl e ↦ from_fold (with_class ds c) cs q (inl (((step ds c (list_any (is_same c) ds) refl).0).1 q (inr e)))
+      | inl e ↦ from_fold (with_class ds c) cs q (inl (((step ds c (list_any (is_same_class c) ds) refl).0).1 q (inr e)))
       | inr later ↦ from_fold (with_class ds c) cs q (inr later)
     ]
 
 pub fold_differ : (ds cs : List Class) → AllPairs Differ ds → AllPairs Differ (fold with_class ds cs)
 fold_differ ds [] h = h
-fold_differ ds (c ∷ cs) h = fold_differ (with_class ds c) cs ((step ds c (list_any (is_same c) ds) refl).1 h)
+fold_differ ds (c ∷ cs) h = fold_differ (with_class ds c) cs ((step ds c (list_any (is_same_class c) ds) refl).1 h)
 
 -- with one more policy
 pub one_more_policy : (net : Network) (policies some : List Policy) (policy : Policy) (ds cs : List Class) → AreAllClasses net policies some ds → AreClasses net policies policy cs →
@@ -219,7 +219,7 @@ module _ (net : Network) (policies some : List Policy) (policy : Policy) (ds cs 
       let both = and_parts (inside d.from policy.from && inside d.to policy.to) (is_service_inside d.service policy.service) all_three in
       let prefixes = and_parts (inside d.from policy.from) (inside d.to policy.to) both.0 in
       let ends = and_parts (nat_le policy.service.low d.service.low) (nat_le d.service.high policy.service.high) both.1 in
-      let of_d : IsOf d (first_packet d) = first_is_of d in
+      let of_d : IsOfClass d (first_packet d) = first_is_of d in
       let whole : MakeUp net (subject policy) cs = make_up net policies policy cs are in
       let has : HasPacket cs (first_packet d) = whole.cover (first_packet d) (
         (inside-IsInside d.from policy.from).0 prefixes.0 d.from.addr (Holds-first d.from),
@@ -244,9 +244,9 @@ module _ (net : Network) (policies some : List Policy) (policy : Policy) (ds cs 
   tests d true e h = Contains-append_right cs (filter (lies_off policy) ds) d (Contains-filter (lies_off policy) ds d h e)
   tests d false e h = Contains-append_left cs (filter (lies_off policy) ds) d (in_policy d h e)
 
-  same_members : (q : Class) → is_member is_same (fold with_class ds cs) q ≡ is_member is_same (cs ++ filter (lies_off policy) ds) q
+  same_members : (q : Class) → is_member is_same_class (fold with_class ds cs) q ≡ is_member is_same_class (cs ++ filter (lies_off policy) ds) q
   same_members q =
-      alike (is_member is_same (fold with_class ds cs) q) (is_member is_same (cs ++ filter (lies_off policy) ds) q)
+      alike (is_member is_same_class (fold with_class ds cs) q) (is_member is_same_class (cs ++ filter (lies_off policy) ds) q)
       (λ t. (is_member-Decides is_same-Decides (cs ++ filter (lies_off policy) ds) q).1
       (elim (to_fold ds cs q ((is_member-Decides is_same-Decides (fold with_class ds cs) q).0 t)) [
         | inl old ↦ tests q (lies_off policy q) refl old
@@ -272,8 +272,8 @@ module _ (net : Network) (policies some : List Policy) (policy : Policy) (ds cs 
   pub counted : length (fold with_class ds cs) ≡ length cs + count_by (lies_off policy) ds
   counted =
       length-from_same_keys is_same-IsEquivalence (fold with_class ds cs) (cs ++ filter (lies_off policy) ds)
-      (IsDistinct-from_apart is_same (fold with_class ds cs) (fold_differ ds cs differ_all))
-      (IsDistinct-from_apart is_same (cs ++ filter (lies_off policy) ds) differ_parts)
+      (IsDistinct-from_apart is_same_class (fold with_class ds cs) (fold_differ ds cs differ_all))
+      (IsDistinct-from_apart is_same_class (cs ++ filter (lies_off policy) ds) differ_parts)
       same_members ∙ length-append cs (filter (lies_off policy) ds) ∙ ap (λ (n : ℕ). length cs + n) (length-filter (lies_off policy) ds)
 
 take_next : (xs items : List Policy) (i : ℕ) (x : Policy) → items ≡ xs → i < length items → x ≡ get_or items i x → take i xs ++ x ∷ [] ≡ take (i + 1) xs

@@ -27,19 +27,19 @@ key_of class = (
 )
 
 -- whether the two have the same numbers
-abbrev pub same_key : Key → Key → Bool
-same_key k l =
+abbrev pub same_class_key : Key → Key → Bool
+same_class_key k l =
     ((((nat_eq k.0 l.0 && nat_eq k.1 l.1) && nat_eq k.2 l.2) && nat_eq k.3 l.3) &&
     nat_eq k.4 l.4) && nat_eq k.5 l.5
 
 -- whether the two classes are the same
-abbrev pub is_same : Class → Class → Bool
-is_same c d = same_key (key_of c) (key_of d)
+abbrev pub is_same_class : Class → Class → Bool
+is_same_class c d = same_class_key (key_of c) (key_of d)
 
 -- the list with the class at its end, where it is not there yet
 abbrev pub with_class : List Class → Class → List Class
 with_class classes class =
-    if list_any (is_same class) classes then classes else classes ++ class ∷ []
+    if list_any (is_same_class class) classes then classes else classes ++ class ∷ []
 
 -- each of the classes once, at its first occurrence
 abbrev pub each_once : List Class → List Class

@@ -5,7 +5,7 @@ use Rattle.net_model.specs.declared.lists.Packet.{Packet}
 use Rattle.net_model.specs.declared.policies.Class.{Class}
 use Rattle.net_model.specs.declared.policies.Policy.{Policy}
 use Rattle.net_model.specs.declared.rows.Network.{Network}
-use Rattle.net_model.specs.Packets.{IsOf, LiesIn, ShareNoPacket, packets}
+use Rattle.net_model.specs.Packets.{IsOfClass, LiesIn, ShareNoPacket, packets}
 use Rattle.net_model.specs.Witnesses.{IsUniformFor}
 use Rattle.traffic_classes.specs.Classes.{AreClasses}
 
@@ -13,7 +13,7 @@ use Rattle.traffic_classes.specs.Classes.{AreClasses}
 pub record HasPacket (classes : List Class) (p : Packet) : Type 0 where
   pub class : Class
   pub one : Contains classes class
-  pub is_of : IsOf class p
+  pub is_of : IsOfClass class p
 
 -- the classes make up the whole: each is a part of it on which each packet list is uniform, no two
 -- share a packet, each packet of the whole is of one, and together they have as many packets as the
@@ -22,7 +22,7 @@ pub record MakeUp (net : Network) (whole : Class) (classes : List Class) : Type 
   pub parts : All (λ c. LiesIn c whole) classes
   pub uniform : All (IsUniformFor net) classes
   pub disjoint : AllPairs ShareNoPacket classes
-  pub cover : (p : Packet) → IsOf whole p → HasPacket classes p
+  pub cover : (p : Packet) → IsOfClass whole p → HasPacket classes p
   pub sizes : sum_by packets classes ≡ packets whole
 
 -- the class is one of some of the policies'

@@ -11,7 +11,7 @@ use Rattle.net_model.specs.declared.policies.Class.{Class}
 use Rattle.net_model.specs.declared.policies.PolicyKind.{PolicyKind}
 use Rattle.net_model.specs.declared.rows.FaceRow.{FaceRow}
 use Rattle.net_model.specs.declared.rows.Network.{Network}
-use Rattle.net_model.specs.Packets.{IsOf, first_packet}
+use Rattle.net_model.specs.Packets.{IsOfClass, first_packet}
 use Rattle.net_model.specs.Routing.{Arc, IsArc, IsRouted, tail_router, head_router, head_face}
 use Rattle.net_model.specs.Forwarding.{Ends, Enters, Leaves, source_router, target_router, ArcPermitsEach}
 use Rattle.net_model.specs.Validity.{IsValid}
@@ -48,10 +48,10 @@ pub end_within : (net : Network) → IsValid net → (face : FaceRow) → Contai
 end_within net valid face one = let here = place_of_item net.faces face one in router_within net valid (here.0) face (here.1)
 
 -- what of one packet of the class holds holds of each
-all_enter : (net : Network) (class : Class) → IsUniformFor net class → (ends : Ends) (p : Packet) → IsOf class p → Enters net ends p → (q : Packet) → IsOf class q → Enters net ends q
+all_enter : (net : Network) (class : Class) → IsUniformFor net class → (ends : Ends) (p : Packet) → IsOfClass class p → Enters net ends p → (q : Packet) → IsOfClass class q → Enters net ends q
 all_enter net class uniform ends p of_p enters q of_q = (enters.0, lists_alike net class uniform p q of_p of_q ends.source.list_in (enters.1))
 
-all_leave : (net : Network) (class : Class) → IsUniformFor net class → (ends : Ends) (p : Packet) → IsOf class p → Leaves net ends p → (q : Packet) → IsOf class q → Leaves net ends q
+all_leave : (net : Network) (class : Class) → IsUniformFor net class → (ends : Ends) (p : Packet) → IsOfClass class p → Leaves net ends p → (q : Packet) → IsOfClass class q → Leaves net ends q
 all_leave net class uniform ends p of_p leaves q of_q = (leaves.0, lists_alike net class uniform p q of_p of_q ends.target.list_out (leaves.1))
 
 -- the arc over which packets go on stands in the graph
@@ -95,7 +95,7 @@ side_is_closed net valid ends here kind class uniform graph is reached reaches k
 
 -- a closed side holds each router that the graph's arcs lead to from one of its routers
 way_stays : (net : Network) (ends : Ends) (kind : PolicyKind) (class : Class) (graph : ClassGraph) → IsClassGraph net ends class (mode_of kind) graph →
-    (side : List Bool) → IsClosed net ends kind class side → (way : List shown.Arc) (u v : ℕ) → graphs.Path graph.graph.arcs u way v → IsOn side u → IsOn side v
+    (side : List Bool) → IsClosed net ends kind class side → (way : List shown.Arc) (u v : ℕ) → graphs.ArcPath graph.graph.arcs u way v → IsOn side u → IsOn side v
 way_stays net ends kind class graph is side closed [] u v path on = subst (IsOn side) path on
 way_stays net ends kind class graph is side closed (a ∷ way) u v path on =
     let one : IsShown net ends.to (Fits (mode_of kind) net class) a = (is.arcs.arcs a).0 (path.0) in

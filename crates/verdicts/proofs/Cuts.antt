@@ -12,7 +12,7 @@ use Rattle.graph_flow.specs.declared.arcs.LinkRow2.{LinkRow2}
 use Rattle.graph_flow.specs.Paths as graphs
 use Rattle.graph_flow.specs.Sides as cuts
 use Rattle.graph_flow.specs.Flows.{flagged}
-use Rattle.graph_flow.specs.Answers.{rows_of, AreInOrder}
+use Rattle.graph_flow.specs.Answers.{rows_of, AreInLinkOrder}
 use Rattle.net_model.specs.declared.rows.Network.{Network}
 use Rattle.net_model.specs.declared.verdicts.LinkPath.{LinkPath}
 use Rattle.net_model.specs.Routing.{Arc, head_router}
@@ -27,11 +27,11 @@ use Rattle.verdicts.proofs.Walks.{Found, found_path}
 
 -- link-disjoint paths of the graph are good paths of the network
 pub good_paths : (net : Network) (ends : Ends) (g : graphs.Digraph) → IsGraphOf net ends.to IsAnyArc g → (s t many : ℕ) → s ≡ source_router ends → t ≡ target_router ends →
-    (rows : List LinkRow2) → graphs.AreDisjointPaths g.arcs s t many (rows_of rows) → AreInOrder (rows_of rows) → AreGoodPaths net ends many (paths_of rows)
+    (rows : List LinkRow2) → graphs.AreDisjointPaths g.arcs s t many (rows_of rows) → AreInLinkOrder (rows_of rows) → AreGoodPaths net ends many (paths_of rows)
 good_paths net ends g is s t many from there rows paths order =
     let path_of : LinkRow2 → LinkPath = λ row. record { links = row.links } in
-    let each : All (λ (row : LinkRow2). graphs.IsPath g.arcs s row.links t) rows =
-    all_of_map (λ (row : LinkRow2). row.links) (λ (links : List Link). graphs.IsPath g.arcs s links t) rows paths.each in
+    let each : All (λ (row : LinkRow2). graphs.IsArcPath g.arcs s row.links t) rows =
+    all_of_map (λ (row : LinkRow2). row.links) (λ (links : List Link). graphs.IsArcPath g.arcs s links t) rows paths.each in
     record {
       count = length-map rows path_of ∙ sym (length-map rows (λ (row : LinkRow2). row.links)) ∙ paths.count;
       are_paths = All-map (IsPath net ends) path_of rows
@@ -39,7 +39,7 @@ good_paths net ends g is s t many from there rows paths order =
           found_path net ends IsAnyArc g is s t from there (get_or rows k d).links (each k d low) in
           found.is_path));
       once = subst AreDistinct (all_links_same rows) paths.disjoint;
-      in_order = subst AreInOrder (sym (links_same rows)) order;
+      in_order = subst AreInLinkOrder (sym (links_same rows)) order;
     }
 
 is_off : (b : Bool) → (¬ IsTrue b) → IsFalse b
@@ -60,7 +60,7 @@ any_shown net to g is side arc leaves = (is.arcs (shown_arc net arc)).1 (record 
 
 -- an arc of the graph that leaves a side is one of the network
 leaves_of : (net : Network) (to : Prefix) (g : graphs.Digraph) → IsGraphOf net to IsAnyArc g → (side : List Bool) (a : shown.Arc) → Contains g.arcs a →
-    cuts.Leaves (flagged side) a → (arc : Arc) × (arc.link ≡ a.link.0) × LeavesSide net to side arc
+    cuts.LeadsOut (flagged side) a → (arc : Arc) × (arc.link ≡ a.link.0) × LeavesSide net to side arc
 leaves_of net to g is side a one leaves =
     let shows : IsShown net to IsAnyArc a = (is.arcs a).0 one in (
       shows.arc,
@@ -73,7 +73,7 @@ leaves_of net to g is side a one leaves =
       },
     )
 
-leaves_shown : (net : Network) (to : Prefix) (side : List Bool) (arc : Arc) → LeavesSide net to side arc → cuts.Leaves (flagged side) (shown_arc net arc)
+leaves_shown : (net : Network) (to : Prefix) (side : List Bool) (arc : Arc) → LeavesSide net to side arc → cuts.LeadsOut (flagged side) (shown_arc net arc)
 leaves_shown net to side arc leaves = record { from_inside = leaves.tail; to_outside = is_off (flagged side (head_router arc)) leaves.head }
 
 -- the links that are left over in the graph separate the ends in the network

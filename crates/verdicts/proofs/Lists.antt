@@ -9,7 +9,7 @@ use Rattle.std.proofs.lemmas.List.Sums.{sum_by-cons}
 use Rattle.arc_base.specs.declared.place.Link.{Link}
 use Rattle.graph_flow.specs.declared.arcs.LinkRow2.{LinkRow2}
 use Rattle.graph_flow.specs.Answers.{rows_of}
-use Rattle.graph_flow.specs.Paths.{all_links}
+use Rattle.graph_flow.specs.Paths.{links_of_paths}
 use Rattle.net_model.specs.declared.verdicts.LinkPath.{LinkPath}
 use Rattle.verdicts.specs.Reaching.{paths_of}
 
@@ -32,9 +32,9 @@ pub links_same : (rows : List LinkRow2) → map (λ (path : LinkPath). path.link
 links_same [] = refl
 links_same (row ∷ rows) = ap (λ (ls : List (List Link)). row.links ∷ ls) (links_same rows)
 
-pub all_links_same : (rows : List LinkRow2) → all_links (rows_of rows) ≡ flat_map (λ (path : LinkPath). path.links) (paths_of rows)
+pub all_links_same : (rows : List LinkRow2) → links_of_paths (rows_of rows) ≡ flat_map (λ (path : LinkPath). path.links) (paths_of rows)
 all_links_same rows =
-    ap all_links (sym (links_same rows)) ∙ flat_map-map (λ (path : List Link). path) (λ (path : LinkPath). path.links) (paths_of rows)
+    ap links_of_paths (sym (links_same rows)) ∙ flat_map-map (λ (path : List Link). path) (λ (path : LinkPath). path.links) (paths_of rows)
 
 -- links in rising order have rising numbers
 pub rising_numbers : (links : List Link) → AllPairs (λ (k l : Link). k.0 < l.0) links → IsStrictlyIncreasing (map (λ (l : Link). l.0) links)

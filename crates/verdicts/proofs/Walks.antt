@@ -43,7 +43,7 @@ pub record Found (net : Network) (ends : Ends) (P : Arc → Type 0) (path : Link
   pub fit : AllByRecursion P is_path.arcs
 
 pub found_path : (net : Network) (ends : Ends) (P : Arc → Type 0) (g : graphs.Digraph) → IsGraphOf net ends.to P g → (s t : ℕ) → s ≡ source_router ends → t ≡ target_router ends →
-    (links : List Link) → graphs.IsPath g.arcs s links t → Found net ends P (record { links = links })
+    (links : List Link) → graphs.IsArcPath g.arcs s links t → Found net ends P (record { links = links })
 found_path net ends P g is s t from there links path =
     let found : Arcs net ends.to P s path.way t = arcs_of net ends.to P g is path.way s t path.leads in
     let to_target : Path net ends.to s found.arcs (target_router ends) = subst (Path net ends.to s found.arcs) there found.leads in
@@ -62,7 +62,7 @@ found_path net ends P g is s t from there links path =
 -- a path from the source to the target is a right walk of the class
 pub right_walk : (net : Network) (ends : Ends) (kind : PolicyKind) (class : Class) (graph : ClassGraph) (links : List Link) →
     IsClassGraph net ends class (mode_of kind) graph → IsTrue graph.enters → IsTrue graph.leaves →
-    graphs.IsPath graph.graph.arcs graph.source.0 links graph.target.0 → IsRightWalk net ends kind class class (record { links = links })
+    graphs.IsArcPath graph.graph.arcs graph.source.0 links graph.target.0 → IsRightWalk net ends kind class class (record { links = links })
 right_walk net ends kind class graph links is enters leaves path =
     let found : Found net ends (Fits (mode_of kind) net class) (record { links = links }) =
     found_path net ends (Fits (mode_of kind) net class) graph.graph is.arcs graph.source.0 graph.target.0 is.source is.target links path in

@@ -22,7 +22,7 @@ link_from : (l : ℕ) (link : Link) → link.0 ≡ l → ◌≡◌ {A = Link} (r
 link_from l link same = let link_of : ℕ → Link = λ n. record { 0 = n } in ap link_of (sym same)
 
 pub arcs_of : (net : Network) (to : Prefix) (P : Arc → Type 0) (g : graphs.Digraph) → IsGraphOf net to P g → (way : List shown.Arc) (u v : ℕ) →
-    graphs.Path g.arcs u way v → Arcs net to P u way v
+    graphs.ArcPath g.arcs u way v → Arcs net to P u way v
 arcs_of net to P g is [] u v path = record { arcs = []; links = refl; heads = refl; leads = path; fit = tt }
 arcs_of net to P g is (a ∷ way) u v path =
     let one : IsShown net to P a = (is.arcs a).0 (path.0) in
@@ -41,8 +41,8 @@ all_as P Q f [] h = tt
 all_as P Q f (arc ∷ arcs) h = (f arc (h.0), all_as P Q f arcs (h.1))
 
 -- a way goes on over one more arc
-pub one_further : (arcs : List shown.Arc) (way : List shown.Arc) (u : ℕ) (a : shown.Arc) → graphs.Path arcs u way a.tail → Contains arcs a →
-    graphs.Path arcs u (way ++ a ∷ []) a.head
+pub one_further : (arcs : List shown.Arc) (way : List shown.Arc) (u : ℕ) (a : shown.Arc) → graphs.ArcPath arcs u way a.tail → Contains arcs a →
+    graphs.ArcPath arcs u (way ++ a ∷ []) a.head
 one_further arcs [] u a path one = (one, sym path, refl)
 one_further arcs (b ∷ way) u a path one = (path.0, path.1, one_further arcs way b.head a (path.2) one)
 

@@ -13,14 +13,14 @@ use Rattle.net_model.specs.declared.verdicts.ClassSide.{ClassSide}
 use Rattle.net_model.specs.declared.verdicts.Verdict.{Verdict}
 use Rattle.net_model.specs.declared.verdicts.Verdict.TheVariants.{Closed, Paths, Walk, Denied, Cut}
 use Rattle.net_model.specs.declared.verdicts.Verdict.TheVariants.{Refused}
-use Rattle.net_model.specs.Packets.{IsOf, subject, first_packet}
+use Rattle.net_model.specs.Packets.{IsOfClass, subject, first_packet}
 use Rattle.net_model.specs.Routing.{Arc, IsArc, IsRouted}
 use Rattle.net_model.specs.Forwarding.{Ends, AreEnds, source_router, target_router}
 use Rattle.net_model.specs.Forwarding.{ArcPermits}
 use Rattle.net_model.specs.Witnesses.{IsOn, IsClosed, LeavesSide}
 use Rattle.class_graph.specs.Denials.{IsDeniedOn}
 use Rattle.class_graph.specs.Passing.{IsFirstAfter, EachPasses}
-use Rattle.graph_flow.specs.Answers.{AreInOrder}
+use Rattle.graph_flow.specs.Answers.{AreInLinkOrder}
 use Rattle.traffic_classes.specs.Classes.{AreClasses}
 
 -- the side is closed, and every closed side holds its routers
@@ -77,7 +77,7 @@ pub record IsLeastCut (net : Network) (ends : Ends) (whole : Class) (links : Lis
 pub record IsFirstRefusal (net : Network) (ends : Ends) (whole : Class) (classes : List Class)
     (p : Packet) (link : Link) : Type 0 where
   pub lower : (arc : Arc) → IsArc net arc → IsRouted net ends.to arc → arc.link < link.0 →
-      (q : Packet) → IsOf whole q → ArcPermits net arc q
+      (q : Packet) → IsOfClass whole q → ArcPermits net arc q
   pub class : Class
   pub is_first : IsFirstAfter (λ c. ¬ IsDeniedOn net ends.to c link.0) classes class
   pub denied : IsDeniedOn net ends.to class link.0
@@ -88,7 +88,7 @@ pub record IsFirstRefusal (net : Network) (ends : Ends) (whole : Class) (classes
 abbrev pub IsFixedReach : Network → Ends → Class → List Class → Verdict → Type 0
 IsFixedReach net ends whole classes (Closed sides) = ⊥
 IsFixedReach net ends whole classes (Walk class path) = ⊥
-IsFixedReach net ends whole classes (Paths paths) = AreInOrder (map (λ path. path.links) paths)
+IsFixedReach net ends whole classes (Paths paths) = AreInLinkOrder (map (λ path. path.links) paths)
 IsFixedReach net ends whole classes (Denied class) =
     IsFirstAfter (EachPasses net ends) classes class
 IsFixedReach net ends whole classes (Cut links side) = IsLeastCut net ends whole links side

@@ -3,7 +3,7 @@ use Rattle.std.specs.Prelude.{◌≡◌, ◌≢◌, ℕ, ◌+◌, ◌≤◌, Boo
 use Rattle.std.specs.List.{flat_map}
 use Rattle.arc_base.specs.declared.place.Link.{Link}
 use Rattle.graph_flow.specs.declared.arcs.LinkRow2.{LinkRow2}
-use Rattle.graph_flow.specs.Answers.{AreInOrder}
+use Rattle.graph_flow.specs.Answers.{AreInLinkOrder}
 use Rattle.net_model.specs.declared.rows.Network.{Network}
 use Rattle.net_model.specs.declared.verdicts.LinkPath.{LinkPath}
 use Rattle.net_model.specs.declared.verdicts.Verdict.{Verdict}
@@ -19,7 +19,7 @@ pub record AreGoodPaths (net : Network) (ends : Ends) (many : ℕ)
   pub count : length paths ≡ many
   pub are_paths : All (IsPath net ends) paths
   pub once : AllPairs (λ l m. l ≢ m) (flat_map (λ path. path.links) paths)
-  pub in_order : AreInOrder (map (λ path. path.links) paths)
+  pub in_order : AreInLinkOrder (map (λ path. path.links) paths)
 
 -- the links separate the ends, are at most `most`, no fewer links do, and their side lies in every
 -- side that no more links leave

@@ -20,8 +20,8 @@ use graph_flow::{FlowAnswer, Graph, LinkRow2, disjoint};
 use net_model::{Class, LinkPath, Network, Verdict};
 use std::alloc::Global;
 
-/// The verdict on a reach policy with these classes, where the graph is that of all routed arcs, and
-/// the table that of the links with packet lists.
+/// The verdict on a reach policy with these classes, where the graph is that of all routed arcs,
+/// and the table that of the links with packet lists.
 pub(crate) fn judge_reach(
     alloc: Global,
     net: &Network,

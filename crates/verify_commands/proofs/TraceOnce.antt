@@ -16,7 +16,7 @@ use Rattle.net_laws.proofs.StableMaps.{one_stable_map}
 use Rattle.net_rules.specs.Ordered.{AreInOrder}
 use Rattle.net_rules.proofs.InOrder.{ordered_once}
 use Rattle.route_trace.specs.Routes.{distance_map, Owns, AreDistances, IsNextHop, AreNextHops}
-use Rattle.route_trace.specs.TraceText.{router_name, route_line, route_lines, trace_head, trace_text, IsTrace}
+use Rattle.route_trace.specs.TraceText.{traced_name, route_line, route_lines, trace_head, trace_text, IsTrace}
 
 -- the links are in the order of their numbers
 abbrev IsLower : Link → Link → Type 0
@@ -57,8 +57,8 @@ module _ (net : Network) (valid : IsValid net) (failed : FailureSet) where
       ((u : ℕ) → u < length net.routers → AreNextHops net to failed (distance_map ds) u (hops u)) → ((u : ℕ) → u < length net.routers → AreNextHops net to failed (distance_map ds) u (more u)) →
       route_lines net ds hops (length net.routers) ≡ route_lines net ds more (length net.routers)
   lines_once to ds hops more these those =
-      pieces_once (λ u. route_line (router_name net u) (distance_map ds u) (hops u)) (λ u. route_line (router_name net u) (distance_map ds u) (more u)) 0 (length net.routers)
-      (λ u low high. ap (λ (ls : List Link). route_line (router_name net u) (distance_map ds u) ls)
+      pieces_once (λ u. route_line (traced_name net u) (distance_map ds u) (hops u)) (λ u. route_line (traced_name net u) (distance_map ds u) (more u)) 0 (length net.routers)
+      (λ u low high. ap (λ (ls : List Link). route_line (traced_name net u) (distance_map ds u) ls)
       (hops_once to ds u (hops u) (more u) (these u (omega (arith, high))) (those u (omega (arith, high)))))
 
   pub trace_once : (from to : Prefix) (text other : List ℕ) → IsTrace net failed from to text → IsTrace net failed from to other → text ≡ other
@@ -76,6 +76,6 @@ module _ (net : Network) (valid : IsValid net) (failed : FailureSet) where
       t.text_is
       ∙ ap (λ (f : FaceRow). trace_text net from f to t.target t.distances t.hops) sources
       ∙ ap (λ (f : FaceRow). trace_text net from s.source to f t.distances t.hops) targets
-      ∙ ap (λ (ls : List ℕ). trace_head from (router_name net s.source.router.0) to (router_name net s.target.router.0) ++ ls) lines
+      ∙ ap (λ (ls : List ℕ). trace_head from (traced_name net s.source.router.0) to (traced_name net s.target.router.0) ++ ls) lines
       ∙ ap (λ (ds : List (Option ℕ)). trace_text net from s.source to s.target ds s.hops) distances
       ∙ sym s.text_is

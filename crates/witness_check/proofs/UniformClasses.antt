@@ -10,7 +10,7 @@ use Rattle.net_model.specs.declared.policies.PolicyKind.{PolicyKind}
 use Rattle.net_model.specs.declared.rows.Network.{Network}
 use Rattle.net_model.specs.declared.verdicts.ClassSide.{ClassSide}
 use Rattle.net_model.specs.Lists.{permits}
-use Rattle.net_model.specs.Packets.{IsOf, ShareNoPacket, packets, first_packet}
+use Rattle.net_model.specs.Packets.{IsOfClass, ShareNoPacket, packets, first_packet}
 use Rattle.net_model.specs.Routing.{Arc, IsArc, IsRouted}
 use Rattle.net_model.specs.Forwarding.{Ends, ListPermits}
 use Rattle.net_model.specs.Witnesses.{IsUniform, MayBreak, IsRightSide, IsRightClosed}
@@ -22,12 +22,12 @@ use Rattle.witness_check.specs.Sides.{Stands, Keeps, KeepsEach}
 abbrev Uniform : Network → Class → Type 0
 Uniform net class = All (λ l. IsUniform l.entries class) net.packet_lists
 
-at_list : (class : Class) (o : Option PacketList) → ((l : PacketList) → o ≡ Some l → IsUniform l.entries class) → (p q : Packet) → IsOf class p → IsOf class q →
+at_list : (class : Class) (o : Option PacketList) → ((l : PacketList) → o ≡ Some l → IsUniform l.entries class) → (p q : Packet) → IsOfClass class p → IsOfClass class q →
     IsSomeAnd o (λ l. IsTrue (permits l.entries p)) → IsSomeAnd o (λ l. IsTrue (permits l.entries q))
 at_list class None uniform p q at_p at_q permitted = permitted
 at_list class (Some l) uniform p q at_p at_q permitted = sym (uniform l refl p q at_p at_q) ∙ permitted
 
-list_same : (net : Network) (class : Class) → Uniform net class → (list : Option ListId) (p q : Packet) → IsOf class p → IsOf class q → ListPermits net list p → ListPermits net list q
+list_same : (net : Network) (class : Class) → Uniform net class → (list : Option ListId) (p q : Packet) → IsOfClass class p → IsOfClass class q → ListPermits net list p → ListPermits net list q
 list_same net class uniform None p q at_p at_q permitted = tt
 list_same net class uniform (Some id) p q at_p at_q permitted =
     let U : PacketList → Type 0 = λ l. IsUniform l.entries class in

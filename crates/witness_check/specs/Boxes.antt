@@ -8,7 +8,7 @@ use Rattle.net_model.specs.declared.lists.Packet.{Packet}
 use Rattle.net_model.specs.declared.lists.PacketEntry.{PacketEntry}
 use Rattle.net_model.specs.declared.policies.Class.{Class}
 use Rattle.net_model.specs.declared.services.Service.{Service}
-use Rattle.net_model.specs.Packets.{IsOf}
+use Rattle.net_model.specs.Packets.{IsOfClass}
 use Rattle.net_model.specs.Services.{Serves, services_meet}
 
 -- whether the two prefixes share an address: one lies inside the other
@@ -53,8 +53,9 @@ AreServiceHalves whole s t =
 -- the two classes make up the whole: each packet of the whole is of one of them, and no other is
 abbrev pub MakeUp : Class → Class → Class → Type 0
 MakeUp whole c d =
-    ((p : Packet) → IsOf whole p → IsOf c p ⊎ IsOf d p) × ((p : Packet) → IsOf c p → IsOf whole p) ×
-    ((p : Packet) → IsOf d p → IsOf whole p)
+    ((p : Packet) → IsOfClass whole p → IsOfClass c p ⊎ IsOfClass d p) ×
+    ((p : Packet) → IsOfClass c p → IsOfClass whole p) ×
+    ((p : Packet) → IsOfClass d p → IsOfClass whole p)
 
 -- how many binary digits it takes to tell the range's services apart: those of the distance from
 -- its first service to its last

@@ -7,7 +7,7 @@ use Rattle.net_model.specs.declared.lists.Packet.{Packet}
 use Rattle.net_model.specs.declared.policies.Class.{Class}
 use Rattle.net_model.specs.declared.rows.Network.{Network}
 use Rattle.net_model.specs.Lists.{permits}
-use Rattle.net_model.specs.Packets.{IsOf}
+use Rattle.net_model.specs.Packets.{IsOfClass}
 use Rattle.net_model.specs.Routing.{Arc, IsArc, IsRouted}
 use Rattle.net_model.specs.Tables.{IsToldOf}
 use Rattle.net_model.specs.Forwarding.{Ends, ListPermits, Enters, Leaves}
@@ -16,12 +16,12 @@ use Rattle.witness_check.specs.declared.arcs.ArcRows.{ArcRows}
 use Rattle.witness_check.specs.declared.cases.Case.{Case}
 
 -- the ends of the case
-abbrev pub ends_of : Case → Ends
-ends_of case = record { source = case.source.now; target = case.target.now; to = case.to }
+abbrev pub ends_in : Case → Ends
+ends_in case = record { source = case.source.now; target = case.target.now; to = case.to }
 
 -- what the case says of its network is so
-abbrev pub IsTold : Case → Type 0
-IsTold case = IsToldOf case.net.now case.to case.told
+abbrev pub CaseHolds : Case → Type 0
+CaseHolds case = IsToldOf case.net.now case.to case.told
 
 -- the packets that are asked for are those that the list with this place permits
 abbrev pub AsksPermitted : Network → Option ListId → Asked → Type 0
@@ -30,7 +30,7 @@ AsksPermitted net list asked =
 
 -- the list with this place permits each packet of the class
 abbrev pub EachPermitted : Network → Option ListId → Class → Type 0
-EachPermitted net list class = (p : Packet) → IsOf class p → ListPermits net list p
+EachPermitted net list class = (p : Packet) → IsOfClass class p → ListPermits net list p
 
 -- the arc whose rows these are
 abbrev pub arc_of : ArcRows → Arc
@@ -64,7 +64,7 @@ abbrev pub EachRouted : Network → Prefix → (Arc → Type 0) → Type 0
 EachRouted net to P = (arc : Arc) → IsRoutedArc net to arc → P arc
 
 -- each packet of the class enters, and leaves once it is at the target router
-abbrev pub EachPasses : Network → Ends → Class → Type 0
-EachPasses net ends class =
-    ((p : Packet) → IsOf class p → Enters net ends p) ×
-    ((p : Packet) → IsOf class p → Leaves net ends p)
+abbrev pub EachEntersAndLeaves : Network → Ends → Class → Type 0
+EachEntersAndLeaves net ends class =
+    ((p : Packet) → IsOfClass class p → Enters net ends p) ×
+    ((p : Packet) → IsOfClass class p → Leaves net ends p)

@@ -4,7 +4,7 @@ ghost use Rattle.net_model.specs.Packets.{subject};
 ghost use Rattle.net_model.specs.Validity.{IsValid};
 ghost use Rattle.net_model.specs.Witnesses.{IsRight, IsRightFor, IsRightBlocking, IsRightReach};
 ghost use Rattle.std.specs.Prelude.{◌↔◌, IsTrue};
-ghost use Rattle.witness_check.specs.Cases.{IsTold, ends_of};
+ghost use Rattle.witness_check.specs.Cases.{CaseHolds, ends_in};
 
 use crate::cases::Case;
 use net_model::{Network, Policy, PolicyKind, Verdict};
@@ -12,10 +12,10 @@ use net_model::{Network, Policy, PolicyKind, Verdict};
 impl Case<'_> {
     /// Whether the verdict on a blocked or through policy is right.
     fn is_right_blocking(&self, kind: PolicyKind, v: &Verdict) -> bool
-        requires told { IsTold self.now }
+        requires told { CaseHolds self.now }
         requires valid { IsValid self.now.net.now }
         ensures { IsTrue result ↔
-            IsRightBlocking self.now.net.now (ends_of self.now) kind self.now.whole v.now }
+            IsRightBlocking self.now.net.now (ends_in self.now) kind self.now.whole v.now }
     {
         match v {
             Verdict::Closed(sides) => self.are_right_sides(kind, sides.slice()),
@@ -26,10 +26,10 @@ impl Case<'_> {
 
     /// Whether the verdict on a reach policy is right.
     fn is_right_reach(&self, k: u32, v: &Verdict) -> bool
-        requires told { IsTold self.now }
+        requires told { CaseHolds self.now }
         requires valid { IsValid self.now.net.now }
         ensures { IsTrue result ↔
-            IsRightReach self.now.net.now (ends_of self.now) k self.now.whole v.now }
+            IsRightReach self.now.net.now (ends_in self.now) k self.now.whole v.now }
     {
         match v {
             Verdict::Paths(paths) => self.are_right_paths(k, paths.slice()),
@@ -42,10 +42,10 @@ impl Case<'_> {
 
     /// Whether the verdict is right.
     fn is_right(&self, kind: PolicyKind, v: &Verdict) -> bool
-        requires told { IsTold self.now }
+        requires told { CaseHolds self.now }
         requires valid { IsValid self.now.net.now }
         ensures { IsTrue result ↔
-            IsRightFor self.now.net.now (ends_of self.now) kind self.now.whole v.now }
+            IsRightFor self.now.net.now (ends_in self.now) kind self.now.whole v.now }
     {
         match kind {
             PolicyKind::Reach(k) => self.is_right_reach(k, v),

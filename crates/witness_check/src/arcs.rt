@@ -1,7 +1,7 @@
 //! Arcs with their rows, and whether they are routed.
 ghost use Rattle.net_model.specs.Routing.{IsArc, IsRouted};
 ghost use Rattle.std.specs.Prelude.{◌↔◌, IsTrue, IfSome, IfNone};
-ghost use Rattle.witness_check.specs.Cases.{IsTold, arc_of, IsRoutedArc, IsOver, EachOver};
+ghost use Rattle.witness_check.specs.Cases.{CaseHolds, arc_of, IsRoutedArc, IsOver, EachOver};
 
 use crate::cases::Case;
 use arc_base::Link;
@@ -44,7 +44,7 @@ impl<'a> Case<'a> {
     /// Whether the arc is routed. It looks through the sessions of the link's two routers, which it
     /// finds by binary search: what can be asked of the arc's rows is asked before.
     pub(crate) fn is_routed(&self, arc: &ArcRows<'_>) -> bool
-        requires told { IsTold self.now }
+        requires told { CaseHolds self.now }
         requires is_arc { IsArc self.now.net.now (arc_of arc.now) }
         ensures { IsTrue result ↔ IsRouted self.now.net.now self.now.to (arc_of arc.now) }
     {
@@ -54,7 +54,7 @@ impl<'a> Case<'a> {
 
     /// The arc of the link in one direction, if it is one of the network and routed.
     pub fn routed_arc(&self, link: Link, from_a: bool) -> Option<ArcRows<'a>>
-        requires { IsTold self.now }
+        requires { CaseHolds self.now }
         ensures found { IfSome result (λ arc.
             IsRoutedArc self.now.net.now self.now.to (arc_of arc)) }
         ensures over { IfSome result (λ arc. IsOver link.0 from_a (arc_of arc)) }

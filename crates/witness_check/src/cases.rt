@@ -2,7 +2,7 @@
 ghost use Rattle.net_model.specs.Forwarding.{AreEnds, HasEnds};
 ghost use Rattle.net_model.specs.Packets.{subject};
 ghost use Rattle.std.specs.Prelude.{◌≡◌, ◌↔◌, IsTrue};
-ghost use Rattle.witness_check.specs.Cases.{ends_of, IsTold};
+ghost use Rattle.witness_check.specs.Cases.{ends_in, CaseHolds};
 
 use arc_base::Prefix;
 use net_model::{Class, FaceRow, Network, Policy, Told};
@@ -30,8 +30,8 @@ impl Case<'_> {
         requires { HasEnds net.now (subject policy.now) }
         ensures net { result.net.now ≡ net.now }
         ensures whole { result.whole ≡ subject policy.now }
-        ensures ends { AreEnds net.now (subject policy.now) (ends_of result) }
-        ensures told { IsTold result }
+        ensures ends { AreEnds net.now (subject policy.now) (ends_in result) }
+        ensures told { CaseHolds result }
     {
         let source = net.host_face(policy.from);
         let target = net.host_face(policy.to);

@@ -5,7 +5,7 @@ ghost use Rattle.net_model.specs.Policies.{IsClear};
 ghost use Rattle.net_model.specs.Routing.{IsArc};
 ghost use Rattle.net_model.specs.Validity.{IsValid};
 ghost use Rattle.std.specs.Prelude.{◌↔◌, IsTrue};
-ghost use Rattle.witness_check.specs.Cases.{ends_of, IsTold, AsksPermitted, EachPermitted};
+ghost use Rattle.witness_check.specs.Cases.{ends_in, CaseHolds, AsksPermitted, EachPermitted};
 ghost use Rattle.witness_check.specs.Cases.{IfRouted, EachOver, EachRouted, arc_of};
 
 use crate::answers::{Asked, none_gets};
@@ -59,7 +59,7 @@ pub fn arc_permits_each(net: &Network, arc: &ArcRows<'_>, class: Class) -> bool
 impl Case<'_> {
     /// Whether the arc permits each packet of the policy, or is not routed.
     fn permits_if_routed(&self, arc: &ArcRows<'_>) -> bool
-        requires told { IsTold self.now }
+        requires told { CaseHolds self.now }
         requires is_arc { IsArc self.now.net.now (arc_of arc.now) }
         ensures { IsTrue result ↔ IfRouted self.now.net.now self.now.to
             (ArcPermitsEach self.now.net.now self.now.whole) (arc_of arc.now) }
@@ -70,7 +70,7 @@ impl Case<'_> {
     /// Whether the arc of the link in one direction, if it is routed, permits each packet of the
     /// policy.
     fn permits_over(&self, link: Link, from_a: bool) -> bool
-        requires { IsTold self.now }
+        requires { CaseHolds self.now }
         ensures { IsTrue result ↔ EachOver self.now.net.now self.now.to link.0 from_a
             (ArcPermitsEach self.now.net.now self.now.whole) }
     {
@@ -82,7 +82,7 @@ impl Case<'_> {
 
     /// Whether each routed arc permits each packet of the policy.
     fn each_permits(&self) -> bool
-        requires { IsTold self.now }
+        requires { CaseHolds self.now }
         ensures { IsTrue result ↔ EachRouted self.now.net.now self.now.to
             (ArcPermitsEach self.now.net.now self.now.whole) }
     {
@@ -97,8 +97,8 @@ impl Case<'_> {
     /// Whether the policy is clear: no routed arc denies a packet of it, or both its ends are at
     /// one router.
     pub fn is_clear(&self) -> bool
-        requires { IsTold self.now }
-        ensures { IsTrue result ↔ IsClear self.now.net.now (ends_of self.now) self.now.whole }
+        requires { CaseHolds self.now }
+        ensures { IsTrue result ↔ IsClear self.now.net.now (ends_in self.now) self.now.whole }
     {
         self.is_local() || self.each_permits()
     }

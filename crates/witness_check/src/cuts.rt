@@ -4,7 +4,7 @@ ghost use Rattle.net_model.specs.Witnesses.{IsOn, LeavesSide, IsRightCut, IsRigh
 ghost use Rattle.net_model.specs.Witnesses.{IsRightDenied};
 ghost use Rattle.std.specs.List.Sorted.{IsStrictlyIncreasing};
 ghost use Rattle.std.specs.Prelude.{◌↔◌, ◌<◌, IsTrue, All, map};
-ghost use Rattle.witness_check.specs.Cases.{IsTold, ends_of, arc_of};
+ghost use Rattle.witness_check.specs.Cases.{CaseHolds, ends_in, arc_of};
 ghost use Rattle.witness_check.specs.Cuts.{LeavesOver, LeavesOverIn, CutsOver, CutsAll, IsCut};
 ghost use Rattle.witness_check.specs.Cuts.{PartsEnds, DeniesOverIn, DeniesOver};
 
@@ -40,7 +40,7 @@ fn are_rising(links: &[Link]) -> bool
 impl Case<'_> {
     /// Whether the arc is routed and leaves the side.
     fn is_leaving(&self, side: &List<bool>, arc: &ArcRows<'_>) -> bool
-        requires told { IsTold self.now }
+        requires told { CaseHolds self.now }
         requires is_arc { IsArc self.now.net.now (arc_of arc.now) }
         ensures { IsTrue result ↔
             LeavesSide self.now.net.now self.now.to side.now (arc_of arc.now) }
@@ -50,7 +50,7 @@ impl Case<'_> {
 
     /// Whether the routed arc of the link in one direction leaves the side.
     fn leaves_over(&self, side: &List<bool>, link: Link, from_a: bool) -> bool
-        requires { IsTold self.now }
+        requires { CaseHolds self.now }
         ensures { IsTrue result ↔ LeavesOverIn self.now.net.now self.now.to side.now link.0 from_a }
     {
         match self.arc_over(link, from_a) {
@@ -61,7 +61,7 @@ impl Case<'_> {
 
     /// Whether a routed arc of the link leaves the side.
     fn leaves_side(&self, side: &List<bool>, link: Link) -> bool
-        requires { IsTold self.now }
+        requires { CaseHolds self.now }
         ensures { IsTrue result ↔ LeavesOver self.now.net.now self.now.to side.now link.0 }
     {
         self.leaves_over(side, link, true) || self.leaves_over(side, link, false)
@@ -69,7 +69,7 @@ impl Case<'_> {
 
     /// Whether a routed arc of each of these links leaves the side.
     fn each_leaves_side(&self, side: &List<bool>, links: &[Link]) -> bool
-        requires { IsTold self.now }
+        requires { CaseHolds self.now }
         ensures { IsTrue result ↔
             All (λ l. LeavesOver self.now.net.now self.now.to side.now l.0) links.now }
     {
@@ -83,7 +83,7 @@ impl Case<'_> {
 
     /// Whether no routed arc of the link leaves the side, or the link is one of these.
     fn cuts_over(&self, side: &List<bool>, links: &[Link], link: Link) -> bool
-        requires { IsTold self.now }
+        requires { CaseHolds self.now }
         ensures { IsTrue result ↔ CutsOver self.now.net.now self.now.to side.now links.now link }
     {
         !self.leaves_side(side, link) || contains(links, link)
@@ -91,7 +91,7 @@ impl Case<'_> {
 
     /// Whether no routed arc leaves the side but over these links.
     fn cuts_all(&self, side: &List<bool>, links: &[Link]) -> bool
-        requires { IsTold self.now }
+        requires { CaseHolds self.now }
         ensures { IsTrue result ↔ CutsAll self.now.net.now self.now.to side.now links.now }
     {
         for place in 0..self.net.links.len() {
@@ -104,7 +104,7 @@ impl Case<'_> {
 
     /// Whether these are exactly the links over which routed arcs leave the side.
     fn is_cut(&self, side: &List<bool>, links: &[Link]) -> bool
-        requires { IsTold self.now }
+        requires { CaseHolds self.now }
         ensures { IsTrue result ↔ IsCut self.now.net.now self.now.to side.now links.now }
     {
         self.each_leaves_side(side, links) && self.cuts_all(side, links)
@@ -112,7 +112,7 @@ impl Case<'_> {
 
     /// Whether the side has a flag for each router, and holds the source and not the target.
     fn parts_ends(&self, side: &List<bool>) -> bool
-        ensures { IsTrue result ↔ PartsEnds self.now.net.now (ends_of self.now) side.now }
+        ensures { IsTrue result ↔ PartsEnds self.now.net.now (ends_in self.now) side.now }
     {
         side.len() == self.net.routers.len()
             && is_on(side, self.source.router)
@@ -122,9 +122,9 @@ impl Case<'_> {
     /// Whether the cut is right: no more links than may fail, exactly those over which routed arcs
     /// leave the side.
     pub(crate) fn is_right_cut(&self, k: u32, links: &[Link], side: &List<bool>) -> bool
-        requires { IsTold self.now }
+        requires { CaseHolds self.now }
         ensures { IsTrue result ↔
-            IsRightCut self.now.net.now (ends_of self.now) k self.now.whole links.now side.now }
+            IsRightCut self.now.net.now (ends_in self.now) k self.now.whole links.now side.now }
     {
         if self.is_local() {
             return false;
@@ -140,7 +140,7 @@ impl Case<'_> {
 
     /// Whether the routed arc of the link in one direction denies the packet.
     fn denies_over(&self, p: Packet, link: Link, from_a: bool) -> bool
-        requires { IsTold self.now }
+        requires { CaseHolds self.now }
         ensures { IsTrue result ↔ DeniesOverIn self.now.net.now self.now.to p link.0 from_a }
     {
         match self.routed_arc(link, from_a) {
@@ -154,7 +154,7 @@ impl Case<'_> {
 
     /// Whether a routed arc of the link denies the packet.
     fn denies(&self, p: Packet, link: Link) -> bool
-        requires { IsTold self.now }
+        requires { CaseHolds self.now }
         ensures { IsTrue result ↔ DeniesOver self.now.net.now self.now.to p link.0 }
     {
         self.denies_over(p, link, true) || self.denies_over(p, link, false)
@@ -163,9 +163,9 @@ impl Case<'_> {
     /// Whether the refusal is right: the packet is the policy's, and a routed arc of the link
     /// denies it.
     pub(crate) fn is_right_refusal(&self, p: Packet, link: Link) -> bool
-        requires { IsTold self.now }
+        requires { CaseHolds self.now }
         ensures { IsTrue result ↔
-            IsRightRefused self.now.net.now (ends_of self.now) self.now.whole p link }
+            IsRightRefused self.now.net.now (ends_in self.now) self.now.whole p link }
     {
         !self.is_local() && is_of(self.whole, p) && self.denies(p, link)
     }
@@ -173,9 +173,9 @@ impl Case<'_> {
     /// Whether the denial is right: the policy is clear, and no packet of a part of it both enters
     /// and leaves.
     pub(crate) fn is_right_denial(&self, class: Class) -> bool
-        requires { IsTold self.now }
+        requires { CaseHolds self.now }
         ensures { IsTrue result ↔
-            IsRightDenied self.now.net.now (ends_of self.now) self.now.whole class }
+            IsRightDenied self.now.net.now (ends_in self.now) self.now.whole class }
     {
         lies_in(class, self.whole) && self.none_passes(class) && self.is_clear()
     }

@@ -1,9 +1,9 @@
 //! Whether packets and classes enter and leave.
 ghost use Rattle.net_model.specs.Forwarding.{Enters, Leaves};
-ghost use Rattle.net_model.specs.Packets.{IsOf, LiesIn};
+ghost use Rattle.net_model.specs.Packets.{IsOfClass, LiesIn};
 ghost use Rattle.net_model.specs.declared.lists.Packet.{Packet};
 ghost use Rattle.std.specs.Prelude.{◌↔◌, IsTrue};
-ghost use Rattle.witness_check.specs.Cases.{ends_of, EachPasses};
+ghost use Rattle.witness_check.specs.Cases.{ends_in, EachEntersAndLeaves};
 
 use crate::answers::none_gets_both;
 use crate::cases::Case;
@@ -21,7 +21,7 @@ pub fn lies_in(class: Class, whole: Class) -> bool
 
 /// Whether the packet is of the class.
 pub fn is_of(class: Class, p: Packet) -> bool
-    ensures { IsTrue result ↔ IsOf class p }
+    ensures { IsTrue result ↔ IsOfClass class p }
 {
     class.from.covers(p.from) && class.to.covers(p.to) && class.service.covers(p.service)
 }
@@ -29,14 +29,14 @@ pub fn is_of(class: Class, p: Packet) -> bool
 impl Case<'_> {
     /// Whether the packet enters.
     pub fn enters(&self, p: Packet) -> bool
-        ensures { IsTrue result ↔ Enters self.now.net.now (ends_of self.now) p }
+        ensures { IsTrue result ↔ Enters self.now.net.now (ends_in self.now) p }
     {
         self.source.up && self.net.list_permits(self.source.list_in, p)
     }
 
     /// Whether the packet leaves once it is at the target router.
     pub fn leaves(&self, p: Packet) -> bool
-        ensures { IsTrue result ↔ Leaves self.now.net.now (ends_of self.now) p }
+        ensures { IsTrue result ↔ Leaves self.now.net.now (ends_in self.now) p }
     {
         self.target.up && self.net.list_permits(self.target.list_out, p)
     }
@@ -44,7 +44,7 @@ impl Case<'_> {
     /// Whether each packet of the class enters.
     pub fn each_enters(&self, class: Class) -> bool
         ensures { IsTrue result ↔
-            ((p : Packet) → IsOf class p → Enters self.now.net.now (ends_of self.now) p) }
+            ((p : Packet) → IsOfClass class p → Enters self.now.net.now (ends_in self.now) p) }
     {
         self.source.up && permits_each(self.net, self.source.list_in, class)
     }
@@ -52,14 +52,14 @@ impl Case<'_> {
     /// Whether each packet of the class leaves once it is at the target router.
     pub fn each_leaves(&self, class: Class) -> bool
         ensures { IsTrue result ↔
-            ((p : Packet) → IsOf class p → Leaves self.now.net.now (ends_of self.now) p) }
+            ((p : Packet) → IsOfClass class p → Leaves self.now.net.now (ends_in self.now) p) }
     {
         self.target.up && permits_each(self.net, self.target.list_out, class)
     }
 
     /// Whether each packet of the class enters, and leaves once it is at the target router.
     pub fn each_passes(&self, class: Class) -> bool
-        ensures { IsTrue result ↔ EachPasses self.now.net.now (ends_of self.now) class }
+        ensures { IsTrue result ↔ EachEntersAndLeaves self.now.net.now (ends_in self.now) class }
     {
         self.each_enters(class) && self.each_leaves(class)
     }
@@ -67,8 +67,8 @@ impl Case<'_> {
     /// Whether no packet of the class both enters and leaves.
     pub fn none_passes(&self, class: Class) -> bool
         ensures { IsTrue result ↔
-            ((p : Packet) → IsOf class p → Enters self.now.net.now (ends_of self.now) p →
-            ¬ Leaves self.now.net.now (ends_of self.now) p) }
+            ((p : Packet) → IsOfClass class p → Enters self.now.net.now (ends_in self.now) p →
+            ¬ Leaves self.now.net.now (ends_in self.now) p) }
     {
         if !self.source.up || !self.target.up {
             return true;

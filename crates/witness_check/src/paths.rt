@@ -3,7 +3,7 @@ ghost use Rattle.net_model.specs.Validity.{IsValid};
 ghost use Rattle.net_model.specs.Witnesses.{IsPath, IsRightPaths};
 ghost use Rattle.std.specs.List.{flat_map};
 ghost use Rattle.std.specs.Prelude.{◌≢◌, ◌↔◌, ◌+◌, ◌⊎◌, IsTrue, Contains, AllPairs, All, length};
-ghost use Rattle.witness_check.specs.Cases.{IsTold, ends_of};
+ghost use Rattle.witness_check.specs.Cases.{CaseHolds, ends_in};
 ghost use Rattle.witness_check.specs.Paths.{IsFullCount, StandOnce};
 
 use crate::cases::Case;
@@ -65,7 +65,7 @@ impl Case<'_> {
     /// Whether there are as many paths as are asked: one more than links may fail, or none where
     /// the packets enter and leave at one router.
     fn is_full_count(&self, k: u32, paths: &[LinkPath]) -> bool
-        ensures { IsTrue result ↔ IsFullCount (ends_of self.now) k (length paths.now) }
+        ensures { IsTrue result ↔ IsFullCount (ends_in self.now) k (length paths.now) }
     {
         if self.is_local() {
             return paths.is_empty();
@@ -75,9 +75,9 @@ impl Case<'_> {
 
     /// Whether each of these is a path from the source to the target.
     fn are_paths(&self, paths: &[LinkPath]) -> bool
-        requires told { IsTold self.now }
+        requires told { CaseHolds self.now }
         requires valid { IsValid self.now.net.now }
-        ensures { IsTrue result ↔ All (IsPath self.now.net.now (ends_of self.now)) paths.now }
+        ensures { IsTrue result ↔ All (IsPath self.now.net.now (ends_in self.now)) paths.now }
     {
         for path in paths {
             if !self.is_path(path) {
@@ -90,10 +90,10 @@ impl Case<'_> {
     /// Whether the paths are right: the policy is clear, its packets enter and leave, and some path
     /// is left whichever links fail.
     pub(crate) fn are_right_paths(&self, k: u32, paths: &[LinkPath]) -> bool
-        requires told { IsTold self.now }
+        requires told { CaseHolds self.now }
         requires valid { IsValid self.now.net.now }
         ensures { IsTrue result ↔
-            IsRightPaths self.now.net.now (ends_of self.now) k self.now.whole paths.now }
+            IsRightPaths self.now.net.now (ends_in self.now) k self.now.whole paths.now }
     {
         if !self.is_full_count(k, paths) {
             return false;

@@ -3,7 +3,7 @@ ghost use Rattle.net_model.specs.Packets.{ShareNoPacket, packets};
 ghost use Rattle.net_model.specs.Routing.{IsArc};
 ghost use Rattle.net_model.specs.Witnesses.{IsUniform, IsRightClosed};
 ghost use Rattle.std.specs.Prelude.{◌≡◌, ◌↔◌, ◌^◌, ◌<◌, ◌≤◌, IsTrue, All, AllPairs, length, sum_by};
-ghost use Rattle.witness_check.specs.Cases.{IsTold, ends_of, arc_of, EachOver, EachRouted};
+ghost use Rattle.witness_check.specs.Cases.{CaseHolds, ends_in, arc_of, EachOver, EachRouted};
 ghost use Rattle.witness_check.specs.Cases.{IfRouted};
 ghost use Rattle.witness_check.specs.Sides.{HoldsSource, SparesTarget, Stands, Keeps, KeepsEach};
 
@@ -86,7 +86,7 @@ fn are_uniform(net: &Network, class: Class) -> bool
 impl Case<'_> {
     /// Whether the side holds the source, or the class's packet of first addresses does not enter.
     fn holds_source(&self, shown: &ClassSide) -> bool
-        ensures { IsTrue result ↔ HoldsSource self.now.net.now (ends_of self.now) shown.now }
+        ensures { IsTrue result ↔ HoldsSource self.now.net.now (ends_in self.now) shown.now }
     {
         is_on(&shown.side, self.source.router) || !self.enters(shown.class.first_packet())
     }
@@ -94,7 +94,7 @@ impl Case<'_> {
     /// Whether the side does not hold the target, or the class's packet of first addresses does not
     /// leave.
     fn spares_target(&self, shown: &ClassSide) -> bool
-        ensures { IsTrue result ↔ SparesTarget self.now.net.now (ends_of self.now) shown.now }
+        ensures { IsTrue result ↔ SparesTarget self.now.net.now (ends_in self.now) shown.now }
     {
         !is_on(&shown.side, self.target.router) || !self.leaves(shown.class.first_packet())
     }
@@ -104,7 +104,7 @@ impl Case<'_> {
     /// leaves.
     fn stands(&self, shown: &ClassSide) -> bool
         ensures { IsTrue result ↔
-            Stands self.now.net.now (ends_of self.now) self.now.whole shown.now }
+            Stands self.now.net.now (ends_in self.now) self.now.whole shown.now }
     {
         lies_in(shown.class, self.whole)
             && shown.side.len() == self.net.routers.len()
@@ -116,7 +116,7 @@ impl Case<'_> {
     /// Whether each of the sides is right.
     fn each_stands(&self, sides: &[ClassSide]) -> bool
         ensures { IsTrue result ↔
-            All (Stands self.now.net.now (ends_of self.now) self.now.whole) sides.now }
+            All (Stands self.now.net.now (ends_in self.now) self.now.whole) sides.now }
     {
         sides.iter().all(|shown| self.stands(shown))
     }
@@ -142,7 +142,7 @@ impl Case<'_> {
 
     /// Whether the arc may not break the policy, or keeps to each of the sides, or is not routed.
     fn keeps_if_routed(&self, kind: PolicyKind, sides: &[ClassSide], arc: &ArcRows<'_>) -> bool
-        requires told { IsTold self.now }
+        requires told { CaseHolds self.now }
         requires is_arc { IsArc self.now.net.now (arc_of arc.now) }
         ensures { IsTrue result ↔ IfRouted self.now.net.now self.now.to
             (KeepsEach self.now.net.now kind sides.now) (arc_of arc.now) }
@@ -153,7 +153,7 @@ impl Case<'_> {
     /// Whether the arc of the link in one direction, if it is routed and may break the policy,
     /// keeps to each of the sides.
     fn keeps_over(&self, kind: PolicyKind, sides: &[ClassSide], link: Link, from_a: bool) -> bool
-        requires { IsTold self.now }
+        requires { CaseHolds self.now }
         ensures { IsTrue result ↔ EachOver self.now.net.now self.now.to link.0 from_a
             (KeepsEach self.now.net.now kind sides.now) }
     {
@@ -172,7 +172,7 @@ impl Case<'_> {
 
     /// Whether each routed arc that may break the policy keeps to each of the sides.
     fn each_keeps(&self, kind: PolicyKind, sides: &[ClassSide]) -> bool
-        requires { IsTold self.now }
+        requires { CaseHolds self.now }
         ensures { IsTrue result ↔
             EachRouted self.now.net.now self.now.to (KeepsEach self.now.net.now kind sides.now) }
     {
@@ -189,10 +189,10 @@ impl Case<'_> {
     /// Whether the closed sides are right: their classes make up the policy, and no packet of a
     /// class gets off its side.
     pub(crate) fn are_right_sides(&self, kind: PolicyKind, sides: &[ClassSide]) -> bool
-        requires told { IsTold self.now }
+        requires told { CaseHolds self.now }
         requires few { length sides.now < 2 ^ 32 }
         ensures { IsTrue result ↔
-            IsRightClosed self.now.net.now (ends_of self.now) kind self.now.whole sides.now }
+            IsRightClosed self.now.net.now (ends_in self.now) kind self.now.whole sides.now }
     {
         if packets_of_all(sides) != packets(self.whole) {
             return false;

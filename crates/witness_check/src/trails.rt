@@ -3,7 +3,7 @@ ghost use Rattle.net_model.specs.Routing.{Arc, IsArc, IsRouted, tail_router};
 ghost use Rattle.net_model.specs.Validity.{IsValid};
 ghost use Rattle.net_model.specs.Witnesses.{IsPath, MayBreak};
 ghost use Rattle.std.specs.Prelude.{◌≡◌, ◌↔◌, IsTrue, IfSome, IfNone};
-ghost use Rattle.witness_check.specs.Cases.{IsTold, arc_of, ends_of};
+ghost use Rattle.witness_check.specs.Cases.{CaseHolds, arc_of, ends_in};
 ghost use Rattle.witness_check.specs.Trails.{IsStep, IsTrail, IsTrailOnce, MayCarry, Avoids};
 ghost use Rattle.witness_check.specs.Trails.{AnyArc};
 
@@ -27,7 +27,7 @@ pub(crate) fn may_break(kind: PolicyKind, arc: &ArcRows<'_>) -> bool
 impl<'a> Case<'a> {
     /// Whether the arc leads on from the router and is routed.
     fn leads_from(&self, router: Router, arc: &ArcRows<'_>) -> bool
-        requires told { IsTold self.now }
+        requires told { CaseHolds self.now }
         requires is_arc { IsArc self.now.net.now (arc_of arc.now) }
         ensures { IsTrue result ↔ ((tail_router (arc_of arc.now) ≡ router.0) ×
             IsRouted self.now.net.now self.now.to (arc_of arc.now)) }
@@ -37,7 +37,7 @@ impl<'a> Case<'a> {
 
     /// The routed arc of the link in one direction, if it leads on from the router.
     fn step_over(&self, router: Router, link: Link, from_a: bool) -> Option<ArcRows<'a>>
-        requires { IsTold self.now }
+        requires { CaseHolds self.now }
         ensures found { IfSome result (λ arc.
             IsStep self.now.net.now self.now.to router.0 link.0 (arc_of arc)) }
         ensures none { IfNone result ((arc : Arc) → arc.from_a ≡ from_a →
@@ -58,7 +58,7 @@ impl<'a> Case<'a> {
     /// The routed arc that leads on from the router over the link. A link joins two routers, so
     /// there is one at most.
     pub fn step(&self, router: Router, link: Link) -> Option<ArcRows<'a>>
-        requires { IsTold self.now }
+        requires { CaseHolds self.now }
         ensures found { IfSome result (λ arc.
             IsStep self.now.net.now self.now.to router.0 link.0 (arc_of arc)) }
         ensures none { IfNone result ((arc : Arc) →
@@ -72,7 +72,7 @@ impl<'a> Case<'a> {
 
     /// Whether the links lead from the source to the target.
     fn leads(&self, links: &[Link]) -> bool
-        requires told { IsTold self.now }
+        requires told { CaseHolds self.now }
         requires valid { IsValid self.now.net.now }
         ensures { IsTrue result ↔ IsTrail self.now.net.now self.now.to AnyArc
             self.now.source.now.router.0 links.now self.now.target.now.router.0 }
@@ -89,9 +89,9 @@ impl<'a> Case<'a> {
 
     /// Whether the path leads from the source to the target.
     pub(crate) fn is_path(&self, path: &LinkPath) -> bool
-        requires told { IsTold self.now }
+        requires told { CaseHolds self.now }
         requires valid { IsValid self.now.net.now }
-        ensures { IsTrue result ↔ IsPath self.now.net.now (ends_of self.now) path.now }
+        ensures { IsTrue result ↔ IsPath self.now.net.now (ends_in self.now) path.now }
     {
         self.leads(path.links.slice())
     }
@@ -107,7 +107,7 @@ impl<'a> Case<'a> {
     /// Whether the links lead from the source to the target over arcs that may carry each packet of
     /// the class.
     pub(crate) fn carries(&self, kind: PolicyKind, class: Class, links: &[Link]) -> bool
-        requires told { IsTold self.now }
+        requires told { CaseHolds self.now }
         requires valid { IsValid self.now.net.now }
         ensures { IsTrue result ↔
             IsTrail self.now.net.now self.now.to (MayCarry self.now.net.now kind class)
@@ -129,7 +129,7 @@ impl<'a> Case<'a> {
     /// Whether the links lead from the one router to the target, and no arc leads to the other
     /// router.
     pub fn avoids(&self, from: Router, links: &[Link], other: Router) -> bool
-        requires told { IsTold self.now }
+        requires told { CaseHolds self.now }
         requires valid { IsValid self.now.net.now }
         ensures { IsTrue result ↔ IsTrail self.now.net.now self.now.to (Avoids other.0) from.0
             links.now self.now.target.now.router.0 }
@@ -150,7 +150,7 @@ impl<'a> Case<'a> {
     /// Whether the links lead from the source to the target, and no router occurs twice on the way.
     /// Each router is looked for among those that follow it.
     pub fn goes_once(&self, links: &[Link]) -> bool
-        requires told { IsTold self.now }
+        requires told { CaseHolds self.now }
         requires valid { IsValid self.now.net.now }
         ensures { IsTrue result ↔ IsTrailOnce self.now.net.now self.now.to
             self.now.source.now.router.0 links.now self.now.target.now.router.0 }

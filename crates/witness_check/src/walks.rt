@@ -2,7 +2,7 @@
 ghost use Rattle.net_model.specs.Validity.{IsValid};
 ghost use Rattle.net_model.specs.Witnesses.{IsRightWalk};
 ghost use Rattle.std.specs.Prelude.{◌↔◌, IsTrue};
-ghost use Rattle.witness_check.specs.Cases.{IsTold, ends_of};
+ghost use Rattle.witness_check.specs.Cases.{CaseHolds, ends_in};
 ghost use Rattle.witness_check.specs.Trails.{IsWalk};
 
 use crate::cases::Case;
@@ -14,7 +14,7 @@ impl Case<'_> {
     /// Whether the links are a walk that may carry each packet of the class and breaks the policy:
     /// they lead from the source to the target, and no router occurs twice on the way.
     fn walks(&self, kind: PolicyKind, class: Class, links: &[Link]) -> bool
-        requires told { IsTold self.now }
+        requires told { CaseHolds self.now }
         requires valid { IsValid self.now.net.now }
         ensures { IsTrue result ↔ IsWalk self.now.net.now self.now.to kind class
             self.now.source.now.router.0 links.now self.now.target.now.router.0 }
@@ -25,10 +25,10 @@ impl Case<'_> {
     /// Whether the walk is right: each packet of a part of the policy may take it, and it breaks
     /// the policy.
     pub(crate) fn is_right_walk(&self, kind: PolicyKind, class: Class, path: &LinkPath) -> bool
-        requires told { IsTold self.now }
+        requires told { CaseHolds self.now }
         requires valid { IsValid self.now.net.now }
         ensures { IsTrue result ↔
-            IsRightWalk self.now.net.now (ends_of self.now) kind self.now.whole class path.now }
+            IsRightWalk self.now.net.now (ends_in self.now) kind self.now.whole class path.now }
     {
         if !lies_in(class, self.whole) {
             return false;

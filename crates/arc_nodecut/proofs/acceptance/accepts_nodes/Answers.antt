@@ -1,5 +1,5 @@
 use Rattle.std.proofs.Common.{◌↔◌, IsTrue, sym, subst}
-use Rattle.witness_check.specs.Cases.{ends_of}
+use Rattle.witness_check.specs.Cases.{ends_in}
 use Rattle.arc_nodecut.specs.declared.verdict.NodeVerdict.{NodeVerdict}
 use Rattle.arc_nodecut.specs.NodeWitnesses.{IsRightNodeVerdict}
 use Rattle.arc_nodecut.proofs.Accepted.{shown_right, is_other}
@@ -15,6 +15,6 @@ returns-in-Refused c =
 
 pub returns-in_default-v : goal.returns-in_default-v
 returns-in_default-v c =
-    shown_right c.args.net.now c.requires.valid c.args.policy.now c.in-Reach.k c.in-Reach.is (ends_of c.of.result) c.of.ensures.ends c.args.v.now
+    shown_right c.args.net.now c.requires.valid c.args.policy.now c.in-Reach.k c.in-Reach.is (ends_in c.of.result) c.of.ensures.ends c.args.v.now
     (is_other c.args.v.now c.in_default-v.not-Denied c.in_default-v.not-Refused) c.of.result.net.now c.of.result.whole c.of.ensures.net c.of.ensures.whole
     c.is_shown.result c.is_shown.ensures

@@ -3,7 +3,7 @@ use Rattle.std.specs.List.{list_any}
 use Rattle.arc_base.specs.TextLines.{lines}
 use Rattle.arc_base.specs.Words.{words}
 use Rattle.cnf_types.specs.Progress.{pieces_after}
-use Rattle.cnf_types.specs.Dimacs.{content, numbers, is_comment, is_bad, line_numbers}
+use Rattle.cnf_types.specs.Dimacs.{content, numbers, is_comment, is_bad_word, line_numbers}
 use Rattle.cnf_types.proofs.Content.{pieces_at_first, bad_later, numbers_line}
 use Rattle.cnf_types.proofs.body.read_lines.Goals as goal
 
@@ -24,7 +24,7 @@ loop-rest-preserved-in-Ok g c =
     let ls = lines c.first_line.result.1.now in
     let off : is_comment c.first_line.result.0.now ≡ false = sym c.is_comment.ensures ∙ c.if-not-is_comment.true in
     let vars_is : c.loop-rest.body.vars ≡ c.args.vars = c.loop-rest.invariant.vars in
-    let fine : IsFalse (list_any (is_bad c.args.vars) (words c.without_return.result.now)) = rw vars_is at c.in-Ok.ensures.numbers in
+    let fine : IsFalse (list_any (is_bad_word c.args.vars) (words c.without_return.result.now)) = rw vars_is at c.in-Ok.ensures.numbers in
     record {
       bad = bad_later c.args.vars n c.first_line.result.0.now c.without_return.result.now ls
           (lines c.loop-rest.rest.now) c.first_line.ensures.lines off c.without_return.ensures.line fine ∙ c.loop-rest.invariant.bad;

@@ -1,6 +1,6 @@
 use Rattle.std.proofs.Common.{◌≡◌, ◌∙◌, ℕ, Bool, List, [], ◌∷◌, ◌++◌, length, take, filter, not, sym, ap, arith, length-append}
 use Rattle.std.proofs.lemmas.Result.{IfOk-weaker}
-use Rattle.edit_list.specs.NewLists.{is_among}
+use Rattle.edit_list.specs.NewLists.{is_name_among}
 use Rattle.arc_base.specs.NameForms.{texts_at}
 use Rattle.edit_space.proofs.NameSets.{joined_first, taken_is_among}
 use Rattle.edit_space.proofs.FreeNames.{candidate_taken, candidate_free, all_tried, enough_found}
@@ -13,10 +13,10 @@ loop-name-preserved c =
     let xs : List (List ℕ) = c.args.candidates.now in
     let i : ℕ = c.loop-name.name-index in
     let name : List ℕ = c.name-item.result in
-    let answer : c.contains.result ≡ is_among names name =
+    let answer : c.contains.result ≡ is_name_among names name =
     c.contains.ensures ∙ taken_is_among c.add_names.new.set.keys names c.bytes.result (joined_first (texts_at c.new-taken.result.keys) names
     (texts_at c.add_names.new.set.keys) (ap texts_at c.new-taken.ensures.empty) c.in_ok-add_names.ensures) ∙
-    ap (is_among names) c.bytes.ensures in
+    ap (is_name_among names) c.bytes.ensures in
     elim c.if-not-contains.branch [
       | then-not-contains+in_ok-make+in_ok-push w ↦
           let now : c.if-not-contains.free.items ≡ c.loop-name.free.items ++ name ∷ [] =
@@ -37,7 +37,7 @@ loop-name-preserved c =
 
 pub returns : goal.returns
 returns c =
-    let free : List ℕ → Bool = λ name. not (is_among c.args.names.now name) in
+    let free : List ℕ → Bool = λ name. not (is_name_among c.args.names.now name) in
     let found : c.loop-name.free.items ≡ take c.args.count (filter free c.args.candidates.now) =
     elim c.loop-name-test.branch [
       | else-loop-name-test w ↦ all_tried free c.args.candidates.now c.loop-name.name-index c.args.count c.loop-name.free.items w.loop-name-test.false c.loop-name.invariant.free

@@ -7,7 +7,7 @@ use Rattle.ios_lines.specs.declared.line.Line.{Line}
 use Rattle.ios_words.specs.declared.kinds.BlockKind.{BlockKind}
 use Rattle.ios_words.specs.declared.kinds.BlockKind.TheVariants as kinds
 use Rattle.ios_config.specs.declared.commands.FileCommand.{FileCommand}
-use Rattle.ios_config.specs.Commands.{IsReadAs, IsFaultOf}
+use Rattle.ios_config.specs.Commands.{IsReadAs, IsFaultOfFile}
 use Rattle.ios_config.specs.Reading.{standing, IsReading}
 use Rattle.ios_config.proofs.Opened.{knows_none}
 use Rattle.ios_config.proofs.Numbered.{lines_all}
@@ -40,7 +40,7 @@ returns-in_err-c-clause-err c =
     at_place lines c.slice-line-items.result.now n r c.slice-line-items.ensures.items c.loop-place-test.true c.line-item.is in
     let reading : IsReading text r (n + 1) (standing r c.loop-place.current) (Err fault) =
     subst (λ (k : BlockKind). IsReading text r (n + 1) k (Err fault)) c.standing.ensures c.in_err-c.ensures in
-    let is : IsFaultOf text lines fault =
+    let is : IsFaultOfFile text lines fault =
     first_fault text lines n r c.requires at c.loop-place.commands.items c.loop-place.current c.loop-place.invariant fault c.if-not-line.true reading in
     let p = err_from_is_err_and c.from_residual.result c.from_residual.ensures.1 in
     rw (p.1, p.2) is

@@ -1,5 +1,5 @@
 use Rattle.std.proofs.Common.{ℕ, List, [], ◌∷◌, ap, length, length-append, subst, arith}
-use Rattle.net_build.specs.Networks.{Says}
+use Rattle.net_build.specs.Networks.{HasSettings}
 use Rattle.arc_base.proofs.Zips.{AllZip-more}
 use Rattle.net_build.proofs.files.read_configs.Goals as goal
 
@@ -7,8 +7,8 @@ pub loop-place-preserved : goal.loop-place-preserved
 loop-place-preserved c =
     let items : List (List ℕ) = c.slice-text-items.result.now in
     record {
-      configs = AllZip-more Says items c.loop-place.place c.text-item.result c.loop-place.configs c.push.new.self c.in_ok-read.read.config c.loop-place-test.true c.text-item.is
+      configs = AllZip-more HasSettings items c.loop-place.place c.text-item.result c.loop-place.configs c.push.new.self c.in_ok-read.read.config c.loop-place-test.true c.text-item.is
           c.loop-place.invariant.configs c.in_ok-push.ensures.ok
-          (subst (λ (text : List ℕ). Says text c.in_ok-read.read.config) c.bytes.ensures c.in_ok-read.ensures.1);
+          (subst (λ (text : List ℕ). HasSettings text c.in_ok-read.read.config) c.bytes.ensures c.in_ok-read.ensures.1);
       configs_long = omega (arith, ap length c.in_ok-push.ensures.ok, length-append c.loop-place.configs (c.in_ok-read.read.config ∷ []), c.loop-place.invariant.configs_long);
     }

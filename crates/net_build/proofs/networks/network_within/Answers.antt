@@ -5,7 +5,7 @@ use Rattle.net_doc.specs.declared.fault.NetFault.{NetFault}
 use Rattle.net_doc.specs.declared.fault.NetFault.TheVariants.{Refused, Memory}
 use Rattle.net_model.specs.declared.policies.Document.{Document}
 use Rattle.ios_config.specs.declared.settings.Config.{Config}
-use Rattle.net_build.specs.Networks.{Says, ReadsFiles, Assembles, BuildsWithin}
+use Rattle.net_build.specs.Networks.{HasSettings, ReadsFiles, Assembles, BuildsWithin}
 use Rattle.net_build.proofs.NetworkTried.{all_have_ends}
 use Rattle.net_build.proofs.OneAnswer.{all_well_formed}
 use Rattle.net_build.proofs.AskingMore.{no_number_above}
@@ -21,14 +21,14 @@ of_file down most doc files (Refused r) first = inl first
 of_file down most doc files Memory first = tt
 
 -- a refusal of what the files have together
-of_tries : (down : List ℕ) (most : ℕ) (doc : Document) (files : List (List ℕ)) (configs : List Config) → AllZip Says files configs → (fault : NetFault) →
+of_tries : (down : List ℕ) (most : ℕ) (doc : Document) (files : List (List ℕ)) (configs : List Config) → AllZip HasSettings files configs → (fault : NetFault) →
     Assembles down most doc configs (Err fault) → BuildsWithin down most doc files (Err fault)
 of_tries down most doc files configs said (Refused r) first = inr (record { configs = configs; said = said; first = first })
 of_tries down most doc files configs said Memory first = tt
 
 pub assemble-requires-clause-few : goal.assemble-requires-clause-few
 assemble-requires-clause-few c =
-    omega (arith, AllZip-length Says c.args.files.now c.in_ok-read.read.configs c.in_ok-read.ensures.1, c.requires.count, c.requires.routers)
+    omega (arith, AllZip-length HasSettings c.args.files.now c.in_ok-read.read.configs c.in_ok-read.ensures.1, c.requires.count, c.requires.routers)
 
 pub assemble-requires-clause-well_formed : goal.assemble-requires-clause-well_formed
 assemble-requires-clause-well_formed c = all_well_formed c.args.files.now c.in_ok-read.read.configs c.in_ok-read.ensures.1

@@ -3,9 +3,9 @@ use Rattle.arc_base.specs.declared.refusal.Kind.TheVariants as kinds
 use Rattle.net_doc.specs.declared.fault.Refusal.{Refusal}
 use Rattle.ios_config.specs.declared.settings.Config.{Config}
 use Rattle.ios_config.specs.declared.settings.Given.{Given}
-use Rattle.net_rules.specs.Reasons.{IsClear, IsFirst}
+use Rattle.net_rules.specs.Reasons.{NoRefusal, IsEarliest}
 use Rattle.net_rules.specs.Reasons.{InFiles}
-use Rattle.net_rules.specs.Routers.{Gives, Repeats}
+use Rattle.net_rules.specs.Routers.{GivesNumber, Repeats}
 use Rattle.net_rules.specs.Linking.{router_id_of}
 use Rattle.net_rules.proofs.Firsts.{tried_refused, first_found, clear_more, clear_all}
 use Rattle.net_checks.specs.Growing.{AddsGiven}
@@ -23,7 +23,7 @@ returns-in-Some c =
     let bad = other_number router_id_of items c.loop-place.place c.config-item.result c.loop-place.ids.keys c.add_given.new.numbers.keys c.loop-place.invariant.held
     c.loop-place.invariant.holds c.in-Some.line found in
     tried_refused (InFiles kinds.AdjacencyForm (Repeats router_id_of c.args.configs.now) c.args.configs.now) (λ (done : Unit {0}). Unit {0}) c.in_file.result r c.in_file.ensures
-    (subst (λ (configs : List Config). IsFirst (InFiles kinds.AdjacencyForm (Repeats router_id_of configs) configs) r) c.slice-config-items.ensures.items
+    (subst (λ (configs : List Config). IsEarliest (InFiles kinds.AdjacencyForm (Repeats router_id_of configs) configs) r) c.slice-config-items.ensures.items
     (first_found kinds.AdjacencyForm (Repeats router_id_of items) items c.loop-place.place c.config-item.result c.in-Some.line c.loop-place-test.true c.config-item.is
     c.loop-place.invariant.clear bad))
 
@@ -34,9 +34,9 @@ loop-place-preserved c =
     subst (λ (number : Option (Given ℕ)). AddsGiven c.loop-place.ids.keys c.add_given.new.numbers.keys number None) c.router_id_of.ensures
     (subst (λ (o : Option ℕ). AddsGiven c.loop-place.ids.keys c.add_given.new.numbers.keys c.router_id_of.result o) c.in-None.is c.in_ok-line.ensures) in
     record {
-      held = held_more (Gives router_id_of) items c.loop-place.place c.config-item.result c.loop-place-test.true c.config-item.is c.loop-place.ids.keys c.add_given.new.numbers.keys
+      held = held_more (GivesNumber router_id_of) items c.loop-place.place c.config-item.result c.loop-place-test.true c.config-item.is c.loop-place.ids.keys c.add_given.new.numbers.keys
           c.loop-place.invariant.held adds.1;
-      holds = holds_more (Gives router_id_of) items c.loop-place.place c.config-item.result c.loop-place-test.true c.config-item.is c.loop-place.ids.keys c.add_given.new.numbers.keys
+      holds = holds_more (GivesNumber router_id_of) items c.loop-place.place c.config-item.result c.loop-place-test.true c.config-item.is c.loop-place.ids.keys c.add_given.new.numbers.keys
           c.loop-place.invariant.holds adds.2 adds.3;
       clear = clear_more kinds.AdjacencyForm (Repeats router_id_of items) items c.loop-place.place c.config-item.result c.loop-place-test.true c.config-item.is
           c.loop-place.invariant.clear
@@ -46,7 +46,7 @@ loop-place-preserved c =
 pub returns : goal.returns
 returns c =
     let items : List Config = c.slice-config-items.result.now in (
-      subst (λ (configs : List Config). IsClear (InFiles kinds.AdjacencyForm (Repeats router_id_of configs) configs)) c.slice-config-items.ensures.items
+      subst (λ (configs : List Config). NoRefusal (InFiles kinds.AdjacencyForm (Repeats router_id_of configs) configs)) c.slice-config-items.ensures.items
           (clear_all kinds.AdjacencyForm (Repeats router_id_of items) items c.loop-place.place c.loop-place-test.false c.loop-place.invariant.clear),
       tt,
     )

@@ -4,7 +4,7 @@ use Rattle.std.proofs.lemmas.List.{get_or_default}
 use Rattle.arc_base.specs.declared.refusal.Kind.TheVariants as kinds
 use Rattle.net_doc.specs.declared.fault.Refusal.{Refusal}
 use Rattle.net_model.specs.declared.rows.LinkRow.{LinkRow}
-use Rattle.net_rules.specs.Reasons.{IsClear, IsFirst, InDocument}
+use Rattle.net_rules.specs.Reasons.{NoRefusal, IsEarliest, InDocument}
 use Rattle.net_rules.specs.Linking.{TypesDiffer}
 use Rattle.net_rules.proofs.Firsts.{tried_refused, first_item, none_more, none_all}
 use Rattle.net_checks.proofs.adjacency.try_types.Goals as goal
@@ -21,7 +21,7 @@ returns-then-types_differ c =
     let r : Refusal = record { file = 0; number = c.loop-place.place + 1; kind = kinds.AdjacencyForm } in
     let bad : TypesDiffer c.args.configs.now link = c.types_differ.ensures.0 c.if-types_differ.true in
     tried_refused (InDocument kinds.AdjacencyForm Offends c.args.net.now.links) (λ (done : Unit {0}). Unit {0}) c.in_document.result r c.in_document.ensures
-    (subst (λ (links : List LinkRow). IsFirst (InDocument kinds.AdjacencyForm Offends links) r) c.slice-link-items.ensures.items
+    (subst (λ (links : List LinkRow). IsEarliest (InDocument kinds.AdjacencyForm Offends links) r) c.slice-link-items.ensures.items
     (first_item kinds.AdjacencyForm Offends items c.loop-place.place link c.loop-place-test.true
     (get_or_default items c.loop-place.place no_link link c.loop-place-test.true) c.loop-place.invariant bad))
 
@@ -38,7 +38,7 @@ pub returns : goal.returns
 returns c =
     let items : List LinkRow = c.slice-link-items.result.now in
     let Offends : ℕ → LinkRow → Type 0 = λ place link. TypesDiffer c.args.configs.now link in (
-      subst (λ (links : List LinkRow). IsClear (InDocument kinds.AdjacencyForm Offends links)) c.slice-link-items.ensures.items
+      subst (λ (links : List LinkRow). NoRefusal (InDocument kinds.AdjacencyForm Offends links)) c.slice-link-items.ensures.items
           (none_all kinds.AdjacencyForm Offends items c.loop-place.place c.loop-place-test.false c.loop-place.invariant),
       tt,
     )

@@ -6,7 +6,7 @@ use Rattle.net_rules.specs.Routers.{IsFirstArea}
 use Rattle.arc_base.specs.declared.refusal.Kind.TheVariants as kinds
 use Rattle.net_doc.specs.declared.fault.Refusal.{Refusal}
 use Rattle.ios_config.specs.Least.{IsLeast}
-use Rattle.net_rules.specs.Reasons.{IsClear, IsFirst, InFiles}
+use Rattle.net_rules.specs.Reasons.{NoRefusal, IsEarliest, InFiles}
 use Rattle.net_rules.specs.Routers.{RefusesTwoAreas}
 use Rattle.net_rules.proofs.Firsts.{tried_refused, first_found, clear_more, clear_all}
 use Rattle.net_checks.proofs.AreaLines.{NamesOtherThan, none_found, none_refused, others_first, others_clear}
@@ -25,7 +25,7 @@ returns-in-Some-2 c =
     subst (λ (o : Option ℕ). FindsLeast (NamesOtherThan c.in-Some.area c.loop-place.place c.config-item.result) o) c.in-Some-2.is c.in_ok-line.ensures in
     tried_refused (RefusesTwoAreas c.args.configs.now) (λ (done : Unit {0}). Unit {0}) c.in_file.result r c.in_file.ensures
     (others_first c.args.configs.now c.in-Some.area is_first r
-    (subst (λ (configs : List Config). IsFirst (InFiles kinds.TwoAreas (NamesOtherThan c.in-Some.area) configs) r) c.slice-config-items.ensures.items
+    (subst (λ (configs : List Config). IsEarliest (InFiles kinds.TwoAreas (NamesOtherThan c.in-Some.area) configs) r) c.slice-config-items.ensures.items
     (first_found kinds.TwoAreas (NamesOtherThan c.in-Some.area) items c.loop-place.place c.config-item.result c.in-Some-2.line c.loop-place-test.true c.config-item.is c.loop-place.invariant least)))
 
 pub loop-place-preserved : goal.loop-place-preserved
@@ -41,7 +41,7 @@ returns c =
     let is_first : IsFirstArea c.args.configs.now c.in-Some.area =
     subst (λ (o : Option ℕ). MatchOption o ((area : ℕ) → ¬ IsFirstArea c.args.configs.now area) (IsFirstArea c.args.configs.now)) c.in-Some.is c.in_ok-area.ensures in (
       others_clear c.args.configs.now c.in-Some.area is_first
-          (subst (λ (configs : List Config). IsClear (InFiles kinds.TwoAreas (NamesOtherThan c.in-Some.area) configs)) c.slice-config-items.ensures.items
+          (subst (λ (configs : List Config). NoRefusal (InFiles kinds.TwoAreas (NamesOtherThan c.in-Some.area) configs)) c.slice-config-items.ensures.items
           (clear_all kinds.TwoAreas (NamesOtherThan c.in-Some.area) items c.loop-place.place c.loop-place-test.false c.loop-place.invariant)),
       tt,
     )

@@ -5,7 +5,7 @@ use Rattle.std.proofs.lemmas.List.Elements.{All-push}
 use Rattle.arc_base.specs.declared.refusal.Kind.TheVariants as kinds
 use Rattle.net_doc.specs.declared.fault.Refusal.{Refusal}
 use Rattle.net_model.specs.declared.policies.Policy.{Policy}
-use Rattle.net_rules.specs.Reasons.{IsClear, IsFirst, InDocument}
+use Rattle.net_rules.specs.Reasons.{NoRefusal, IsEarliest, InDocument}
 use Rattle.net_rules.specs.Addressing.{HasEndpoints}
 use Rattle.net_rules.proofs.Firsts.{tried_refused, bad_item, good_item, none_all}
 use Rattle.net_checks.proofs.endpoints.try_endpoints.Goals as goal
@@ -19,7 +19,7 @@ returns-then-not-has_endpoints-clause-tried c =
     let Offends : ℕ → Policy → Type 0 = λ place policy. ¬ HasEndpoints c.args.net.now policy.from policy.to in
     let r : Refusal = record { file = 0; number = c.loop-place.place + 1; kind = kinds.Endpoint } in
     tried_refused (InDocument kinds.Endpoint Offends c.args.doc.now.policies) (λ (done : Unit {0}). Unit {0}) c.in_document.result r c.in_document.ensures
-    (subst (λ (policies : List Policy). IsFirst (InDocument kinds.Endpoint Offends policies) r) c.slice-policy-items.ensures.items
+    (subst (λ (policies : List Policy). IsEarliest (InDocument kinds.Endpoint Offends policies) r) c.slice-policy-items.ensures.items
     (bad_item kinds.Endpoint (λ (policy : Policy). HasEndpoints c.args.net.now policy.from policy.to) c.slice-policy-items.result.now c.loop-place.place c.policy-item.result
     c.loop-place-test.true c.policy-item.is c.has_endpoints.result c.has_endpoints.ensures c.loop-place.invariant.none c.if-not-has_endpoints.true))
 
@@ -36,7 +36,7 @@ loop-place-preserved c =
 pub returns-clause-tried : goal.returns-clause-tried
 returns-clause-tried c =
     let Offends : ℕ → Policy → Type 0 = λ place policy. ¬ HasEndpoints c.args.net.now policy.from policy.to in (
-      subst (λ (policies : List Policy). IsClear (InDocument kinds.Endpoint Offends policies)) c.slice-policy-items.ensures.items
+      subst (λ (policies : List Policy). NoRefusal (InDocument kinds.Endpoint Offends policies)) c.slice-policy-items.ensures.items
           (none_all kinds.Endpoint Offends c.slice-policy-items.result.now c.loop-place.place c.loop-place-test.false c.loop-place.invariant.none),
       tt,
     )

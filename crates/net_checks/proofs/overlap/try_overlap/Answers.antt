@@ -7,7 +7,7 @@ use Rattle.net_doc.specs.declared.fault.Refusal.{Refusal}
 use Rattle.ios_config.specs.declared.settings.Given.{Given}
 use Rattle.ios_config.specs.declared.settings.FaceText.{FaceText}
 use Rattle.net_rules.specs.Sites.{Site, sites}
-use Rattle.net_rules.specs.Reasons.{IsFirst}
+use Rattle.net_rules.specs.Reasons.{IsEarliest}
 use Rattle.net_checks.specs.Claims.{ClearBelow}
 use Rattle.net_rules.specs.Addressing.{OverlapsEarlier, RefusesOverlap}
 use Rattle.net_rules.proofs.Firsts.{tried_refused}
@@ -59,4 +59,4 @@ returns-in-Some-spot_at-clause-tried c = λ doc rows.
     c.address_line.ensures ∙ ap (λ (f : FaceText). option_map_or (λ (g : Given ℕ). g.line) f.addr 0) (sym s.2.1) in
     let first = overlap_first doc c.args.configs.now c.requires.named c.args.net.now rows c.in-Some.place found.0 found.1 s.0 s.1 c.address_line.result line in
     tried_refused (RefusesOverlap doc c.args.configs.now) (λ (done : Unit {0}). Unit {0}) c.in_file.result r c.in_file.ensures
-    (subst (λ (n : ℕ). IsFirst (RefusesOverlap doc c.args.configs.now) (record { file = n + 1; number = c.address_line.result; kind = kinds.Overlap })) s.2.0 first)
+    (subst (λ (n : ℕ). IsEarliest (RefusesOverlap doc c.args.configs.now) (record { file = n + 1; number = c.address_line.result; kind = kinds.Overlap })) s.2.0 first)

@@ -6,7 +6,7 @@ use Rattle.ios_config.specs.declared.settings.Config.{Config}
 use Rattle.net_rules.specs.Forms.{IsWellFormed}
 use Rattle.net_rules.specs.Settings.{lines_of}
 use Rattle.ios_config.specs.Least.{FindsLeast}
-use Rattle.net_rules.specs.Reasons.{IsClear, IsFirst}
+use Rattle.net_rules.specs.Reasons.{NoRefusal, IsEarliest}
 use Rattle.net_rules.specs.Peers.{RefusesNetwork, TellsUnconnected}
 use Rattle.net_rules.proofs.Firsts.{tried_refused, first_found, clear_more, clear_all}
 use Rattle.net_checks.proofs.PeersEnds.{item_of_all}
@@ -26,7 +26,7 @@ returns-in-Some c =
     let r : Refusal = record { file = c.loop-place.place + 1; number = c.in-Some.line; kind = kinds.NetworkNotConnected } in
     let found = subst (λ (o : Option ℕ). FindsLeast (Offends c.loop-place.place c.config-item.result) o) c.in-Some.is c.in_ok-line.ensures in
     tried_refused (RefusesNetwork c.args.configs.now) (λ (done : Unit {0}). Unit {0}) c.in_file.result r c.in_file.ensures
-    (subst (λ (configs : List Config). IsFirst (RefusesNetwork configs) r) c.slice-config-items.ensures.items
+    (subst (λ (configs : List Config). IsEarliest (RefusesNetwork configs) r) c.slice-config-items.ensures.items
     (first_found kinds.NetworkNotConnected Offends items c.loop-place.place c.config-item.result c.in-Some.line c.loop-place-test.true c.config-item.is c.loop-place.invariant found))
 
 pub loop-place-preserved : goal.loop-place-preserved
@@ -37,7 +37,7 @@ loop-place-preserved c =
 pub returns : goal.returns
 returns c =
     let items : List Config = c.slice-config-items.result.now in (
-      subst (λ (configs : List Config). IsClear (RefusesNetwork configs)) c.slice-config-items.ensures.items
+      subst (λ (configs : List Config). NoRefusal (RefusesNetwork configs)) c.slice-config-items.ensures.items
           (clear_all kinds.NetworkNotConnected Offends items c.loop-place.place c.loop-place-test.false c.loop-place.invariant),
       tt,
     )

@@ -3,8 +3,8 @@ use Rattle.arc_base.specs.declared.refusal.Kind.TheVariants as kinds
 use Rattle.net_doc.specs.declared.fault.Refusal.{Refusal}
 use Rattle.ios_config.specs.declared.settings.Config.{Config}
 use Rattle.ios_config.specs.declared.settings.Given.{Given}
-use Rattle.net_rules.specs.Reasons.{IsClear, IsFirst}
-use Rattle.net_rules.specs.Routers.{as_of, Gives, Repeats, RefusesSameAs}
+use Rattle.net_rules.specs.Reasons.{NoRefusal, IsEarliest}
+use Rattle.net_rules.specs.Routers.{as_of, GivesNumber, Repeats, RefusesSameAs}
 use Rattle.net_rules.proofs.Firsts.{tried_refused, first_found, clear_more, clear_all}
 use Rattle.net_checks.specs.Growing.{AddsGiven}
 use Rattle.net_checks.proofs.Grown.{held_more, holds_more}
@@ -21,7 +21,7 @@ returns-in-Some c =
     let bad = other_number as_of items c.loop-place.place c.config-item.result c.loop-place.numbers.keys c.add_given.new.numbers.keys c.loop-place.invariant.held
     c.loop-place.invariant.holds c.in-Some.line found in
     tried_refused (RefusesSameAs c.args.configs.now) (λ (done : Unit {0}). Unit {0}) c.in_file.result r c.in_file.ensures
-    (subst (λ (configs : List Config). IsFirst (RefusesSameAs configs) r) c.slice-config-items.ensures.items
+    (subst (λ (configs : List Config). IsEarliest (RefusesSameAs configs) r) c.slice-config-items.ensures.items
     (first_found kinds.SameAs (Repeats as_of items) items c.loop-place.place c.config-item.result c.in-Some.line c.loop-place-test.true c.config-item.is c.loop-place.invariant.clear bad))
 
 pub loop-place-preserved : goal.loop-place-preserved
@@ -31,9 +31,9 @@ loop-place-preserved c =
     subst (λ (number : Option (Given ℕ)). AddsGiven c.loop-place.numbers.keys c.add_given.new.numbers.keys number None) c.as_of.ensures
     (subst (λ (o : Option ℕ). AddsGiven c.loop-place.numbers.keys c.add_given.new.numbers.keys c.as_of.result o) c.in-None.is c.in_ok-line.ensures) in
     record {
-      held = held_more (Gives as_of) items c.loop-place.place c.config-item.result c.loop-place-test.true c.config-item.is c.loop-place.numbers.keys c.add_given.new.numbers.keys
+      held = held_more (GivesNumber as_of) items c.loop-place.place c.config-item.result c.loop-place-test.true c.config-item.is c.loop-place.numbers.keys c.add_given.new.numbers.keys
           c.loop-place.invariant.held adds.1;
-      holds = holds_more (Gives as_of) items c.loop-place.place c.config-item.result c.loop-place-test.true c.config-item.is c.loop-place.numbers.keys c.add_given.new.numbers.keys
+      holds = holds_more (GivesNumber as_of) items c.loop-place.place c.config-item.result c.loop-place-test.true c.config-item.is c.loop-place.numbers.keys c.add_given.new.numbers.keys
           c.loop-place.invariant.holds adds.2 adds.3;
       clear = clear_more kinds.SameAs (Repeats as_of items) items c.loop-place.place c.config-item.result c.loop-place-test.true c.config-item.is c.loop-place.invariant.clear
           (own_number as_of items c.loop-place.place c.config-item.result c.loop-place.numbers.keys c.add_given.new.numbers.keys c.loop-place.invariant.held c.loop-place.invariant.holds adds);
@@ -42,7 +42,7 @@ loop-place-preserved c =
 pub returns : goal.returns
 returns c =
     let items : List Config = c.slice-config-items.result.now in (
-      subst (λ (configs : List Config). IsClear (RefusesSameAs configs)) c.slice-config-items.ensures.items
+      subst (λ (configs : List Config). NoRefusal (RefusesSameAs configs)) c.slice-config-items.ensures.items
           (clear_all kinds.SameAs (Repeats as_of items) items c.loop-place.place c.loop-place-test.false c.loop-place.invariant.clear),
       tt,
     )

@@ -2,7 +2,7 @@ use Rattle.std.proofs.Common.{ℕ, ◌+◌, List, Option, Some, None, subst, map
 use Rattle.arc_base.specs.declared.refusal.Kind.TheVariants as kinds
 use Rattle.net_doc.specs.declared.fault.Refusal.{Refusal}
 use Rattle.ios_config.specs.declared.settings.Config.{Config}
-use Rattle.net_rules.specs.Reasons.{IsClear, IsFirst}
+use Rattle.net_rules.specs.Reasons.{NoRefusal, IsEarliest}
 use Rattle.net_rules.specs.Routers.{RefusesHostname, HasNoOwnName}
 use Rattle.net_rules.proofs.Firsts.{tried_refused, first_found, clear_more, clear_all}
 use denote.Ref.{Bor}
@@ -21,7 +21,7 @@ returns-in-Some c =
     let bad = other_name items c.loop-place.place c.config-item.result c.loop-place-test.true c.config-item.is (map text c.loop-place.names.keys)
     (map text c.add_hostname.new.names.keys) c.loop-place.invariant.names c.loop-place.invariant.named c.in-Some.line found in
     tried_refused (RefusesHostname c.args.configs.now) (λ (done : Unit {0}). Unit {0}) c.in_file.result r c.in_file.ensures
-    (subst (λ (configs : List Config). IsFirst (RefusesHostname configs) r) c.slice-config-items.ensures.items
+    (subst (λ (configs : List Config). IsEarliest (RefusesHostname configs) r) c.slice-config-items.ensures.items
     (first_found kinds.Hostname (HasNoOwnName items) items c.loop-place.place c.config-item.result c.in-Some.line c.loop-place-test.true c.config-item.is c.loop-place.invariant.clear bad))
 
 pub loop-place-preserved : goal.loop-place-preserved
@@ -42,7 +42,7 @@ loop-place-preserved c =
 pub returns : goal.returns
 returns c =
     let items : List Config = c.slice-config-items.result.now in (
-      subst (λ (configs : List Config). IsClear (RefusesHostname configs)) c.slice-config-items.ensures.items
+      subst (λ (configs : List Config). NoRefusal (RefusesHostname configs)) c.slice-config-items.ensures.items
           (clear_all kinds.Hostname (HasNoOwnName items) items c.loop-place.place c.loop-place-test.false c.loop-place.invariant.clear),
       tt,
     )

@@ -2,7 +2,7 @@ use Rattle.std.proofs.Common.{◌≡◌, ℕ, refl, sym, ◌∙◌, ap, List, So
 use Rattle.std.specs.Prelude.{slice_get}
 use Rattle.std.proofs.lemmas.Bool.{false≢true}
 use Rattle.net_rules.specs.Names.{names_at}
-use Rattle.net_rules.specs.Kinds.{kind_of, is_loopback}
+use Rattle.net_rules.specs.Kinds.{face_kind, is_loopback}
 use Rattle.net_rules.specs.Sites.{FullName, a_end, b_end}
 use Rattle.net_rules.proofs.Distinct.{Contains-at}
 use Rattle.row_making.proofs.links.link_row.Goals as goal
@@ -17,8 +17,8 @@ returns c =
       record {
         a = Contains-at names c.in-Some.a (a_end c.args.link.now) at_a;
         b = Contains-at names c.in-Some-place_of.b (b_end c.args.link.now) at_b;
-        a_kind = sym (c.is_loopback.ensures ∙ ap is_loopback (c.of.ensures ∙ ap kind_of c.bytes.ensures)) ∙ c.if-is_loopback.false;
-        b_kind = sym (c.is_loopback-2.ensures ∙ ap is_loopback (c.of-2.ensures ∙ ap kind_of c.bytes-2.ensures)) ∙ c.if-is_loopback-2.false;
+        a_kind = sym (c.is_loopback.ensures ∙ ap is_loopback (c.of.ensures ∙ ap face_kind c.bytes.ensures)) ∙ c.if-is_loopback.false;
+        b_kind = sym (c.is_loopback-2.ensures ∙ ap is_loopback (c.of-2.ensures ∙ ap face_kind c.bytes-2.ensures)) ∙ c.if-is_loopback-2.false;
         routers = λ e. false≢true (sym c.if-is.false ∙ c.is.ensures.1 (e ∙ sym c.bytes-3.ensures));
       },
       record {

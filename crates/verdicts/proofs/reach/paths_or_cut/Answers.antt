@@ -1,6 +1,6 @@
 use Rattle.std.proofs.Common.{◌≡◌, ◌+◌, ◌<◌, length, ap, sym, subst}
 use Rattle.arc_base.specs.declared.prefix.Prefix.{Prefix}
-use Rattle.graph_flow.specs.Answers.{IfPaths, IfCut, AreInOrder}
+use Rattle.graph_flow.specs.Answers.{IfPaths, IfCut, AreInLinkOrder}
 use Rattle.graph_flow.specs.declared.answer.FlowAnswer.{FlowAnswer}
 use Rattle.graph_flow.specs.Flows.{flagged}
 use Rattle.graph_flow.specs.Paths.{AreDisjointPaths}
@@ -28,7 +28,7 @@ returns-in_ok-paths-in-Paths c = λ ends is.
     (ap (λ (e : End). e.router.0) is.source) (ap (λ (e : End). e.router.0) is.target) c.in-Paths.rows
     (subst (λ (a : FlowAnswer). IfPaths a (AreDisjointPaths c.args.graph.now.arcs c.args.pair.now.source.router.0 c.args.pair.now.target.router.0 (c.args.failures + 1))) c.in-Paths.is
     c.in_ok-answer.ensures.paths)
-    (subst (λ (a : FlowAnswer). IfPaths a AreInOrder) c.in-Paths.is c.in_ok-answer.ensures.order))
+    (subst (λ (a : FlowAnswer). IfPaths a AreInLinkOrder) c.in-Paths.is c.in_ok-answer.ensures.order))
 
 pub returns-in-Cut : goal.returns-in-Cut
 returns-in-Cut c = λ ends is.

@@ -3,7 +3,7 @@ use Rattle.std.proofs.lemmas.Bool.{false≢true}
 use Rattle.net_model.specs.declared.lists.Packet.{Packet}
 use Rattle.net_model.specs.declared.lists.PacketEntry.{PacketEntry}
 use Rattle.net_model.specs.Lists.{permits}
-use Rattle.net_model.specs.Packets.{IsOf}
+use Rattle.net_model.specs.Packets.{IsOfClass}
 use Rattle.witness_check.specs.Answers.{IsOpenAt}
 use Rattle.witness_check.proofs.Matches.{each_not_none, halves_then, halves_else}
 use Rattle.witness_check.proofs.answers.+none_gets.Goals as goal
@@ -17,7 +17,7 @@ returns-in-Always t c = (
 pub returns-then-none_gets : goal.returns-then-none_gets
 returns-then-none_gets t c =
     let open_at : IsOpenAt c.args.asked.now.entries.now c.args.class c.in-Open.place = c.in-Open.ensures in
-    let same : (p : Packet) → IsOf c.args.class p → permits c.args.asked.now.entries.now p ≡ permits c.rest-rest.result.entries.now p =
+    let same : (p : Packet) → IsOfClass c.args.class p → permits c.args.asked.now.entries.now p ≡ permits c.rest-rest.result.entries.now p =
     λ p at. open_at.rest p at ∙ ap (λ (xs : List PacketEntry). permits xs p) (sym c.rest-rest.ensures.entries) in
     let P : Packet → Type 0 = λ p. permits c.args.asked.now.entries.now p ≡ c.args.asked.now.answer → ⊥ in
     let Q : Packet → Type 0 = λ p. permits c.rest-rest.result.entries.now p ≡ c.rest-rest.result.answer → ⊥ in
@@ -29,7 +29,7 @@ returns-then-none_gets t c =
 pub returns-else-none_gets : goal.returns-else-none_gets
 returns-else-none_gets t c =
     let open_at : IsOpenAt c.args.asked.now.entries.now c.args.class c.in-Open.place = c.in-Open.ensures in
-    let same : (p : Packet) → IsOf c.args.class p → permits c.args.asked.now.entries.now p ≡ permits c.rest-rest.result.entries.now p =
+    let same : (p : Packet) → IsOfClass c.args.class p → permits c.args.asked.now.entries.now p ≡ permits c.rest-rest.result.entries.now p =
     λ p at. open_at.rest p at ∙ ap (λ (xs : List PacketEntry). permits xs p) (sym c.rest-rest.ensures.entries) in
     let P : Packet → Type 0 = λ p. permits c.args.asked.now.entries.now p ≡ c.args.asked.now.answer → ⊥ in
     let Q : Packet → Type 0 = λ p. permits c.rest-rest.result.entries.now p ≡ c.rest-rest.result.answer → ⊥ in
