@@ -34,7 +34,7 @@ use Rattle.net_checks.proofs.Overlaps.{turn_linked}
 use Rattle.net_rules.proofs.SameNetwork.{tried_same, to_link_subnets, from_link_subnets, to_endpoint, from_endpoint}
 use Rattle.net_build.proofs.ValidNetwork.{valid}
 
-turn_apart : (o q : Option Prefix) → IfSome o (λ p. IfSome q (AreDisjoint p)) → IfSome q (λ p. IfSome o (AreDisjoint p))
+pub turn_apart : (o q : Option Prefix) → IfSome o (λ p. IfSome q (AreDisjoint p)) → IfSome q (λ p. IfSome o (AreDisjoint p))
 turn_apart None None h = tt
 turn_apart None (Some q) h = tt
 turn_apart (Some p) None h = tt
@@ -64,7 +64,10 @@ module _ (doc : Document) (configs : List Config) (net : Network) (rows : AreRow
       valid doc configs net (record { well_formed = forms; few = few_files configs few; names = names_distinct configs own forms; clear = joined; rows = rows.base })
       (all_named configs own) (hosts_differ configs own) rows few_configs few_links (apart_both net clear)
 
-  module _ (distinct : AreDistinct (full_names configs)) where
+  module _ (own : NoRefusal (RefusesHostname configs)) (forms : All IsWellFormed configs) where
+    distinct : AreDistinct (full_names configs)
+    distinct = names_distinct configs own forms
+
     pub subnets_tried : (result : Result (Unit {0}) NetFault) →
         TriedAlone (InDocument kinds.LinkSubnets (λ (place : ℕ) (link : LinkRow). ¬ FitsSubnets net link) net.links) result → TriedAlone (RefusesLinkSubnets doc configs) result
     subnets_tried result said =

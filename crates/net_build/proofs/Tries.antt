@@ -1,5 +1,5 @@
 -- The first refusal of tries, one after another.
-use Rattle.std.proofs.Common.{inl, inr, List, [], ◌∷◌, ◌++◌, Result, Ok, Err}
+use Rattle.std.proofs.Common.{◌≡◌, inl, inr, List, [], ◌∷◌, ◌++◌, Result, Ok, Err, IsErrAnd, sym, subst}
 use Rattle.net_doc.specs.declared.fault.Refusal.{Refusal}
 use Rattle.net_doc.specs.declared.fault.NetFault.{NetFault}
 use Rattle.net_doc.specs.declared.fault.NetFault.TheVariants.{Refused, Memory}
@@ -8,7 +8,7 @@ use Rattle.net_build.specs.Order.{Try, IsFirstOf, AreClear, AnswersTries}
 
 module _ (Makes : Try → Refusal → Type 0) where
   -- a refusal of the first try is the first of all
-  pub first_fails : {X Y : Type 0} (t : Try) (ts : List Try) (IsRight : X → Type 0) (IsGood : Y → Type 0) (fault : NetFault) →
+  first_fails : {X Y : Type 0} (t : Try) (ts : List Try) (IsRight : X → Type 0) (IsGood : Y → Type 0) (fault : NetFault) →
       Tried (Makes t) IsRight (Err fault) → AnswersTries Makes (t ∷ ts) IsGood (Err fault)
   first_fails t ts IsRight IsGood (Refused r) first = inl first
   first_fails t ts IsRight IsGood Memory first = tt
@@ -35,6 +35,14 @@ module _ (Makes : Try → Refusal → Type 0) where
       AnswersTries Makes (ts ++ us) IsGood result
   clear_before [] us IsGood result clear said = said
   clear_before (t ∷ ts) us IsGood result clear said = later_decide t (ts ++ us) IsGood result clear.0 (clear_before ts us IsGood result clear.1 said)
+
+  -- and the exit of a `?` returns the first refusal of the next try
+  pub fails_after : {X Y : Type 0} (ts : List Try) (t : Try) (us : List Try) (IsRight : X → Type 0) (IsGood : Y → Type 0) (result : Result Y NetFault) (fault : NetFault) →
+      IsErrAnd result (λ y. y ≡ fault) → AreClear Makes ts → Tried (Makes t) IsRight (Err fault) → AnswersTries Makes (ts ++ t ∷ us) IsGood result
+  fails_after ts t us IsRight IsGood (Ok x) fault is clear said = absurd is
+  fails_after ts t us IsRight IsGood (Err y) fault is clear said =
+      subst (λ (z : NetFault). AnswersTries Makes (ts ++ t ∷ us) IsGood (Err z)) (sym is)
+      (clear_before ts (t ∷ us) IsGood (Err fault) clear (first_fails t us IsRight IsGood fault said))
 
   -- a refusal of the first of more tries is that of all
   pub first_of_more : (ts us : List Try) (r : Refusal) → IsFirstOf Makes ts r → IsFirstOf Makes (ts ++ us) r

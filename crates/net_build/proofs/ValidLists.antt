@@ -1,9 +1,9 @@
 -- The lists of a network that has the rows of its files are valid.
-use Rattle.std.proofs.Common.{◌≡◌, ◌≢◌, ℕ, suc, ◌⊎◌, inl, inr, Option, Some, None, List, [], ◌∷◌, get_or, refl, ◌∙◌, subst, arith}
+use Rattle.std.proofs.Common.{◌≡◌, ◌≢◌, ℕ, suc, ◌⊎◌, inl, inr, Option, Some, None, List, [], ◌∷◌, refl, ◌∙◌, subst, arith}
 use Rattle.std.specs.Prelude.{All, AllPairs, Contains, IfSome, slice_get, ◌==◌, Bool, true, false, if◌then◌else◌}
 use Rattle.std.specs.List.{filter_map, last_or, cons_option}
 use Rattle.std.proofs.lemmas.List.Elements.{All-contains}
-use Rattle.std.proofs.lemmas.Option.{slice_get-get_or, none-some, same_Some}
+use Rattle.std.proofs.lemmas.Option.{none-some, same_Some}
 use Rattle.net_model.specs.declared.lists.PacketList.{PacketList}
 use Rattle.net_model.specs.declared.lists.RouteList.{RouteList}
 use Rattle.net_model.specs.declared.policies.Document.{Document}
@@ -22,6 +22,7 @@ use Rattle.net_rules.specs.Lists.{IsBoundPacketList, IsBoundRouteList, IsListNam
 use Rattle.net_rules.specs.Rows.{IsRouterRow}
 use Rattle.net_rules.proofs.Distinct.{Contains-at}
 use Rattle.net_build.proofs.ValidRows.{AreKnown}
+use Rattle.arc_base.proofs.Items.{All-from}
 use Rattle.arc_base.proofs.Zips.{AllZip-right}
 use Rattle.net_rules.proofs.ListKeys.{names_differ}
 
@@ -84,9 +85,7 @@ module _ (doc : Document) (configs : List Config) (net : Network) (k : AreKnown 
       record { owner = o.0; owner_is = o.1; listed = o.2; name = bound_packet_name row.config list.name (well_formed_file list.router.0 row.config row.at_router) row.bound }
 
   pub packet_lists : All (IsValidPacketList net) net.packet_lists
-  packet_lists i d l =
-      packet_list_at (get_or net.packet_lists i d) ((k.rows.packet_lists.just (get_or net.packet_lists i d)).0
-      (Contains-at net.packet_lists i (get_or net.packet_lists i d) (slice_get-get_or net.packet_lists i d l)))
+  packet_lists = All-from (IsValidPacketList net) net.packet_lists (λ list held. packet_list_at list ((k.rows.packet_lists.just list).0 held))
 
   route_list_at : (list : RouteList) → IsRouteListRow configs list → IsValidRouteList net list
   route_list_at list row =
@@ -94,9 +93,7 @@ module _ (doc : Document) (configs : List Config) (net : Network) (k : AreKnown 
       record { owner = o.0; owner_is = o.1; listed = o.2; name = bound_route_name row.config list.name (well_formed_file list.router.0 row.config row.at_router) row.bound }
 
   pub route_lists : All (IsValidRouteList net) net.route_lists
-  route_lists i d l =
-      route_list_at (get_or net.route_lists i d) ((k.rows.route_lists.just (get_or net.route_lists i d)).0
-      (Contains-at net.route_lists i (get_or net.route_lists i d) (slice_get-get_or net.route_lists i d l)))
+  route_lists = All-from (IsValidRouteList net) net.route_lists (λ list held. route_list_at list ((k.rows.route_lists.just list).0 held))
 
   pub packet_lists_apart : AllPairs (λ l m. l.router.0 ≡ m.router.0 → l.name ≢ m.name) net.packet_lists
   packet_lists_apart i j d l m = names_differ _ _ (k.rows.packet_lists.order i j d l m)

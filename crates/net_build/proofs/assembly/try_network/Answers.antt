@@ -1,14 +1,15 @@
-use Rattle.std.proofs.Common.{[], ◌∷◌, Ok, Err, arith}
-use Rattle.std.proofs.lemmas.Result.{err_from_is_err_and, on_ok_weaker}
+use Rattle.std.proofs.Common.{ℕ, List, [], ◌∷◌, Ok, Err, arith}
+use Rattle.std.proofs.lemmas.Result.{on_ok_weaker}
 use Rattle.net_model.specs.Validity.{IsValid}
 use Rattle.net_rules.specs.Sites.{full_names}
 use Rattle.net_rules.specs.Rows.{IsLinkRow}
-use Rattle.net_build.specs.Order.{Overlap, LinkSubnets, ListStopsSession, AdjacencyForm, Interfaces, Entries, Endpoint, RefusesWithin}
+use Rattle.net_build.specs.Order.{Overlap, LinkSubnets, ListStopsSession, AdjacencyForm, Interfaces, Entries, Endpoint, AreClear, RefusesWithin}
 use Rattle.net_rules.proofs.LinksApart.{names_distinct, links_apart, sites_long, a_within, b_within}
 use Rattle.net_build.proofs.NetworkTried.{valid_network, subnets_tried, endpoints_tried}
-use Rattle.net_build.proofs.Tries.{first_fails, clear_before, one_decides}
+use Rattle.net_build.proofs.Tries.{fails_after, clear_before, one_decides}
 use Rattle.arc_base.proofs.Zips.{AllZip-length}
 use Rattle.net_build.proofs.assembly.try_network.Goals as goal
+use Rattle.net_build.proofs.assembly.try_network.Goals.{In_ok-try_adjacency}
 
 abbrev Done : Unit {0} → Type 0
 Done done = Unit {0}
@@ -45,109 +46,68 @@ try_endpoints-requires-clause-valid c =
     valid_network c.args.doc.now c.args.configs.now c.args.net.now c.requires.rows c.requires.well_formed c.requires.named c.requires.joined
     c.in_ok-try_interfaces.ensures.0 c.in_ok-try_overlap.ensures.clear c.requires.few c.requires.links
 
+-- the tries of links, lists and adjacencies refuse nothing
+four_clear : (down : List ℕ) (c : In_ok-try_adjacency) →
+    AreClear (RefusesWithin down c.args.most_entries c.args.doc.now c.args.configs.now) (Overlap ∷ LinkSubnets ∷ ListStopsSession ∷ AdjacencyForm ∷ [])
+four_clear down c = (
+  (c.in_ok-try_overlap.ensures.tried c.args.doc.now c.requires.rows).0,
+  (
+    (subnets_tried c.args.doc.now c.args.configs.now c.args.net.now c.requires.rows c.requires.named c.requires.well_formed (Ok tt) c.in_ok-try_subnets.ensures).0,
+    ((c.in_ok-try_lists.ensures c.args.doc.now c.requires.rows).0, ((c.in_ok-try_adjacency.ensures c.args.doc.now c.requires.rows).0, tt)),
+  ),
+)
+
 pub returns-in_err-try_overlap-clause-answer : goal.returns-in_err-try_overlap-clause-answer
 returns-in_err-try_overlap-clause-answer c = λ down.
-    let doc = c.args.doc.now in
-    let configs = c.args.configs.now in
-    let Makes = RefusesWithin down c.args.most_entries doc configs in
-    let p = err_from_is_err_and c.from_residual.result c.from_residual.ensures.1 in
-    let fault = c.in_err-try_overlap.field-0.0 in
-    rw (p.1, p.2) (first_fails Makes Overlap (LinkSubnets ∷ ListStopsSession ∷ AdjacencyForm ∷ Interfaces ∷ Entries ∷ Endpoint ∷ []) Done Done fault
-    (c.in_err-try_overlap.ensures.tried doc c.requires.rows))
+    fails_after (RefusesWithin down c.args.most_entries c.args.doc.now c.args.configs.now) [] Overlap (LinkSubnets ∷ ListStopsSession ∷ AdjacencyForm ∷ Interfaces ∷ Entries ∷ Endpoint ∷ [])
+    Done Done c.from_residual.result c.in_err-try_overlap.field-0.0 c.from_residual.ensures.1
+    tt (c.in_err-try_overlap.ensures.tried c.args.doc.now c.requires.rows)
 
 pub returns-in_err-try_subnets-clause-answer : goal.returns-in_err-try_subnets-clause-answer
 returns-in_err-try_subnets-clause-answer c = λ down.
-    let doc = c.args.doc.now in
-    let configs = c.args.configs.now in
-    let net = c.args.net.now in
-    let distinct = names_distinct configs c.requires.named c.requires.well_formed in
-    let Makes = RefusesWithin down c.args.most_entries doc configs in
-    let p = err_from_is_err_and c.from_residual-in_err-try_subnets.result c.from_residual-in_err-try_subnets.ensures.1 in
-    let fault = c.in_err-try_subnets.field-0.0 in
-    rw (p.1, p.2) (clear_before Makes (Overlap ∷ []) (LinkSubnets ∷ ListStopsSession ∷ AdjacencyForm ∷ Interfaces ∷ Entries ∷ Endpoint ∷ []) Done (Err fault)
-    ((c.in_ok-try_overlap.ensures.tried doc c.requires.rows).0, tt)
-    (first_fails Makes LinkSubnets (ListStopsSession ∷ AdjacencyForm ∷ Interfaces ∷ Entries ∷ Endpoint ∷ []) Done Done fault
-    (subnets_tried doc configs net c.requires.rows distinct (Err fault) c.in_err-try_subnets.ensures)))
+    fails_after (RefusesWithin down c.args.most_entries c.args.doc.now c.args.configs.now) (Overlap ∷ []) LinkSubnets (ListStopsSession ∷ AdjacencyForm ∷ Interfaces ∷ Entries ∷ Endpoint ∷ [])
+    Done Done c.from_residual-in_err-try_subnets.result c.in_err-try_subnets.field-0.0 c.from_residual-in_err-try_subnets.ensures.1
+    ((c.in_ok-try_overlap.ensures.tried c.args.doc.now c.requires.rows).0, tt)
+    (subnets_tried c.args.doc.now c.args.configs.now c.args.net.now c.requires.rows c.requires.named c.requires.well_formed (Err c.in_err-try_subnets.field-0.0) c.in_err-try_subnets.ensures)
 
 pub returns-in_err-try_lists-clause-answer : goal.returns-in_err-try_lists-clause-answer
 returns-in_err-try_lists-clause-answer c = λ down.
-    let doc = c.args.doc.now in
-    let configs = c.args.configs.now in
-    let net = c.args.net.now in
-    let distinct = names_distinct configs c.requires.named c.requires.well_formed in
-    let Makes = RefusesWithin down c.args.most_entries doc configs in
-    let p = err_from_is_err_and c.from_residual-in_err-try_lists.result c.from_residual-in_err-try_lists.ensures.1 in
-    let fault = c.in_err-try_lists.field-0.0 in
-    rw (p.1, p.2) (clear_before Makes (Overlap ∷ LinkSubnets ∷ []) (ListStopsSession ∷ AdjacencyForm ∷ Interfaces ∷ Entries ∷ Endpoint ∷ []) Done (Err fault)
-    ((c.in_ok-try_overlap.ensures.tried doc c.requires.rows).0, ((subnets_tried doc configs net c.requires.rows distinct (Ok tt) c.in_ok-try_subnets.ensures).0, tt))
-    (first_fails Makes ListStopsSession (AdjacencyForm ∷ Interfaces ∷ Entries ∷ Endpoint ∷ []) Done Done fault (c.in_err-try_lists.ensures doc c.requires.rows)))
+    let subnets = (subnets_tried c.args.doc.now c.args.configs.now c.args.net.now c.requires.rows c.requires.named c.requires.well_formed (Ok tt) c.in_ok-try_subnets.ensures).0 in
+    fails_after (RefusesWithin down c.args.most_entries c.args.doc.now c.args.configs.now) (Overlap ∷ LinkSubnets ∷ []) ListStopsSession (AdjacencyForm ∷ Interfaces ∷ Entries ∷ Endpoint ∷ [])
+    Done Done c.from_residual-in_err-try_lists.result c.in_err-try_lists.field-0.0 c.from_residual-in_err-try_lists.ensures.1
+    ((c.in_ok-try_overlap.ensures.tried c.args.doc.now c.requires.rows).0, (subnets, tt))
+    (c.in_err-try_lists.ensures c.args.doc.now c.requires.rows)
 
 pub returns-in_err-try_adjacency-clause-answer : goal.returns-in_err-try_adjacency-clause-answer
 returns-in_err-try_adjacency-clause-answer c = λ down.
-    let doc = c.args.doc.now in
-    let configs = c.args.configs.now in
-    let net = c.args.net.now in
-    let distinct = names_distinct configs c.requires.named c.requires.well_formed in
-    let Makes = RefusesWithin down c.args.most_entries doc configs in
-    let p = err_from_is_err_and c.from_residual-in_err-try_adjacency.result c.from_residual-in_err-try_adjacency.ensures.1 in
-    let fault = c.in_err-try_adjacency.field-0.0 in
-    rw (p.1, p.2) (clear_before Makes (Overlap ∷ LinkSubnets ∷ ListStopsSession ∷ []) (AdjacencyForm ∷ Interfaces ∷ Entries ∷ Endpoint ∷ []) Done (Err fault) (
-      (c.in_ok-try_overlap.ensures.tried doc c.requires.rows).0,
-      ((subnets_tried doc configs net c.requires.rows distinct (Ok tt) c.in_ok-try_subnets.ensures).0, ((c.in_ok-try_lists.ensures doc c.requires.rows).0, tt)),
-    )
-    (first_fails Makes AdjacencyForm (Interfaces ∷ Entries ∷ Endpoint ∷ []) Done Done fault (c.in_err-try_adjacency.ensures doc c.requires.rows)))
+    let subnets = (subnets_tried c.args.doc.now c.args.configs.now c.args.net.now c.requires.rows c.requires.named c.requires.well_formed (Ok tt) c.in_ok-try_subnets.ensures).0 in
+    fails_after (RefusesWithin down c.args.most_entries c.args.doc.now c.args.configs.now) (Overlap ∷ LinkSubnets ∷ ListStopsSession ∷ []) AdjacencyForm (Interfaces ∷ Entries ∷ Endpoint ∷ [])
+    Done Done c.from_residual-in_err-try_adjacency.result c.in_err-try_adjacency.field-0.0 c.from_residual-in_err-try_adjacency.ensures.1
+    ((c.in_ok-try_overlap.ensures.tried c.args.doc.now c.requires.rows).0, (subnets, ((c.in_ok-try_lists.ensures c.args.doc.now c.requires.rows).0, tt)))
+    (c.in_err-try_adjacency.ensures c.args.doc.now c.requires.rows)
 
 pub returns-in_err-try_interfaces-clause-answer : goal.returns-in_err-try_interfaces-clause-answer
 returns-in_err-try_interfaces-clause-answer c = λ down.
-    let doc = c.args.doc.now in
-    let configs = c.args.configs.now in
-    let net = c.args.net.now in
-    let distinct = names_distinct configs c.requires.named c.requires.well_formed in
-    let Makes = RefusesWithin down c.args.most_entries doc configs in
-    let p = err_from_is_err_and c.from_residual-in_err-try_interfaces.result c.from_residual-in_err-try_interfaces.ensures.1 in
-    let fault = c.in_err-try_interfaces.field-0.0 in
-    rw (p.1, p.2) (clear_before Makes (Overlap ∷ LinkSubnets ∷ ListStopsSession ∷ AdjacencyForm ∷ []) (Interfaces ∷ Entries ∷ Endpoint ∷ []) Done (Err fault) (
-      (c.in_ok-try_overlap.ensures.tried doc c.requires.rows).0,
-      (
-        (subnets_tried doc configs net c.requires.rows distinct (Ok tt) c.in_ok-try_subnets.ensures).0,
-        ((c.in_ok-try_lists.ensures doc c.requires.rows).0, ((c.in_ok-try_adjacency.ensures doc c.requires.rows).0, tt)),
-      ),
-    )
-    (first_fails Makes Interfaces (Entries ∷ Endpoint ∷ []) Done Done fault (c.in_err-try_interfaces.ensures)))
+    fails_after (RefusesWithin down c.args.most_entries c.args.doc.now c.args.configs.now) (Overlap ∷ LinkSubnets ∷ ListStopsSession ∷ AdjacencyForm ∷ []) Interfaces (Entries ∷ Endpoint ∷ [])
+    Done Done c.from_residual-in_err-try_interfaces.result c.in_err-try_interfaces.field-0.0 c.from_residual-in_err-try_interfaces.ensures.1
+    (four_clear down (goal.at.returns-in_err-try_interfaces-clause-answer c).In_ok-try_adjacency) c.in_err-try_interfaces.ensures
 
 pub returns-in_err-try_entries-clause-answer : goal.returns-in_err-try_entries-clause-answer
 returns-in_err-try_entries-clause-answer c = λ down.
-    let doc = c.args.doc.now in
-    let configs = c.args.configs.now in
-    let net = c.args.net.now in
-    let distinct = names_distinct configs c.requires.named c.requires.well_formed in
-    let Makes = RefusesWithin down c.args.most_entries doc configs in
-    let p = err_from_is_err_and c.from_residual-in_err-try_entries.result c.from_residual-in_err-try_entries.ensures.1 in
-    let fault = c.in_err-try_entries.field-0.0 in
-    rw (p.1, p.2) (clear_before Makes (Overlap ∷ LinkSubnets ∷ ListStopsSession ∷ AdjacencyForm ∷ Interfaces ∷ []) (Entries ∷ Endpoint ∷ []) Done (Err fault) (
-      (c.in_ok-try_overlap.ensures.tried doc c.requires.rows).0,
-      (
-        (subnets_tried doc configs net c.requires.rows distinct (Ok tt) c.in_ok-try_subnets.ensures).0,
-        ((c.in_ok-try_lists.ensures doc c.requires.rows).0, ((c.in_ok-try_adjacency.ensures doc c.requires.rows).0, ((c.in_ok-try_interfaces.ensures).0, tt))),
-      ),
-    )
-    (first_fails Makes Entries (Endpoint ∷ []) Done Done fault (c.in_err-try_entries.ensures)))
+    let Makes = RefusesWithin down c.args.most_entries c.args.doc.now c.args.configs.now in
+    clear_before Makes (Overlap ∷ LinkSubnets ∷ ListStopsSession ∷ AdjacencyForm ∷ []) (Interfaces ∷ Entries ∷ Endpoint ∷ []) Done c.from_residual-in_err-try_entries.result
+    (four_clear down (goal.at.returns-in_err-try_entries-clause-answer c).In_ok-try_adjacency)
+    (fails_after Makes (Interfaces ∷ []) Entries (Endpoint ∷ []) Done Done c.from_residual-in_err-try_entries.result c.in_err-try_entries.field-0.0
+    c.from_residual-in_err-try_entries.ensures.1 (c.in_ok-try_interfaces.ensures.0, tt) c.in_err-try_entries.ensures)
 
 pub returns-clause-answer : goal.returns-clause-answer
 returns-clause-answer c = λ down.
-    let doc = c.args.doc.now in
-    let configs = c.args.configs.now in
-    let net = c.args.net.now in
-    let distinct = names_distinct configs c.requires.named c.requires.well_formed in
-    let Makes = RefusesWithin down c.args.most_entries doc configs in
-    clear_before Makes (Overlap ∷ LinkSubnets ∷ ListStopsSession ∷ AdjacencyForm ∷ Interfaces ∷ Entries ∷ []) (Endpoint ∷ []) Done c.try_endpoints.result (
-      (c.in_ok-try_overlap.ensures.tried doc c.requires.rows).0,
-      (
-        (subnets_tried doc configs net c.requires.rows distinct (Ok tt) c.in_ok-try_subnets.ensures).0,
-        ((c.in_ok-try_lists.ensures doc c.requires.rows).0, ((c.in_ok-try_adjacency.ensures doc c.requires.rows).0, ((c.in_ok-try_interfaces.ensures).0, ((c.in_ok-try_entries.ensures).0, tt)))),
-      ),
-    )
-    (one_decides Makes Endpoint Done c.try_endpoints.result (endpoints_tried doc configs net c.requires.rows distinct c.try_endpoints.result c.try_endpoints.ensures.tried))
+    let Makes = RefusesWithin down c.args.most_entries c.args.doc.now c.args.configs.now in
+    clear_before Makes (Overlap ∷ LinkSubnets ∷ ListStopsSession ∷ AdjacencyForm ∷ []) (Interfaces ∷ Entries ∷ Endpoint ∷ []) Done c.try_endpoints.result
+    (four_clear down (goal.at.returns-clause-answer c).In_ok-try_adjacency)
+    (clear_before Makes (Interfaces ∷ Entries ∷ []) (Endpoint ∷ []) Done c.try_endpoints.result (c.in_ok-try_interfaces.ensures.0, (c.in_ok-try_entries.ensures.0, tt))
+    (one_decides Makes Endpoint Done c.try_endpoints.result (endpoints_tried c.args.doc.now c.args.configs.now c.args.net.now c.requires.rows c.requires.named c.requires.well_formed
+    c.try_endpoints.result c.try_endpoints.ensures.tried)))
 
 pub returns-clause-valid : goal.returns-clause-valid
 returns-clause-valid c =
