@@ -4,6 +4,7 @@ use Rattle.std.specs.Prelude.{IsTrue, ◌↔◌, All, AllPairs, Contains}
 use Rattle.std.specs.List.{AllByRecursion}
 use Rattle.std.proofs.lemmas.Bool.Decides.{eqb_tells}
 use Rattle.std.proofs.lemmas.List.{drop_all}
+use Rattle.arc_base.proofs.Items.{AllPairs-none, Contains-head, Contains-tail, Contains-cases, Contains-none}
 use Rattle.net_model.specs.declared.policies.Class.{Class}
 use Rattle.net_model.specs.declared.rows.Network.{Network}
 use Rattle.net_model.specs.declared.verdicts.LinkPath.{LinkPath}
@@ -13,15 +14,14 @@ use Rattle.net_model.specs.Validity.{IsValid}
 use Rattle.net_model.specs.Witnesses.{IsPath, routers_of}
 use Rattle.witness_check.specs.Trails.{IsTrail, IsTrailOnce, Avoids}
 use Rattle.witness_check.proofs.Following.{one_way}
-use Rattle.witness_check.proofs.Repeats.{here, there, first_or_later, empty, pairs_none}
 use Rattle.arc_nodecut.specs.NodeWitnesses.{GoesBy, PassesRouter, ShareOnlyEnds, IsServed, IsRightApart}
 use Rattle.arc_nodecut.specs.NodePaths.{MayPass, KeepsOff, GoesOff}
 
 -- what holds of each arc's head holds of each router that is one
 heads_each : (Q : ℕ → Type 0) (arcs : List Arc) → AllByRecursion (λ arc. Q (head_router arc)) arcs → (router : ℕ) → Contains (map head_router arcs) router → Q router
-heads_each Q [] each router at = absurd (empty router at)
+heads_each Q [] each router at = absurd (Contains-none router at)
 heads_each Q (a ∷ arcs) each router at =
-    elim (first_or_later (head_router a) router (map head_router arcs) at) [
+    elim (Contains-cases (head_router a) router (map head_router arcs) at) [
       | inl same ↦ subst Q same each.0
       | inr later ↦ heads_each Q arcs each.1 router later
     ]
@@ -29,8 +29,8 @@ heads_each Q (a ∷ arcs) each router at =
 each_head : (Q : ℕ → Type 0) (arcs : List Arc) → ((router : ℕ) → Contains (map head_router arcs) router → Q router) → AllByRecursion (λ arc. Q (head_router arc)) arcs
 each_head Q [] all = tt
 each_head Q (a ∷ arcs) all = (
-  all (head_router a) (here (head_router a) (map head_router arcs)),
-  each_head Q arcs (λ router later. all router (there (head_router a) router (map head_router arcs) later)),
+  all (head_router a) (Contains-head (head_router a) (map head_router arcs)),
+  each_head Q arcs (λ router later. all router (Contains-tail (head_router a) router (map head_router arcs) later)),
 )
 
 -- a trail that repeats no router and has more or less than one link is a path by routers between the ends
@@ -57,14 +57,14 @@ module _ (net : Network) (valid : IsValid net) (ends : Ends) where
   shared_head q router at_q (inl source) = inl source
   shared_head q router at_q (inr (inl target)) = inr target
   shared_head q router at_q (inr (inr avoid)) =
-      elim (first_or_later (source_router ends) router (map head_router avoid.arcs) (passed_on q avoid.arcs (path_of (Avoids router) q avoid) refl router at_q)) [
+      elim (Contains-cases (source_router ends) router (map head_router avoid.arcs) (passed_on q avoid.arcs (path_of (Avoids router) q avoid) refl router at_q)) [
         | inl same ↦ inl (sym same)
         | inr later ↦ absurd (heads_each (λ (h : ℕ). h ≢ router) avoid.arcs avoid.each router later refl)
       ]
 
   pub shared : (p q : LinkPath) → GoesOff net ends p q → ShareOnlyEnds net ends p q
   shared p q off router at_p at_q =
-      elim (first_or_later (source_router ends) router (map head_router off.arcs) (passed_on p off.arcs (path_of (KeepsOff net ends q) p off) refl router at_p)) [
+      elim (Contains-cases (source_router ends) router (map head_router off.arcs) (passed_on p off.arcs (path_of (KeepsOff net ends q) p off) refl router at_p)) [
         | inl same ↦ inl (sym same)
         | inr later ↦ shared_head q router at_q (heads_each (MayPass net ends q) off.arcs off.each router later)
       ]
@@ -77,10 +77,10 @@ module _ (net : Network) (valid : IsValid net) (ends : Ends) where
         | inr off_source ↦ elim (eqb_tells router (target_router ends)) [
           | inl at ↦ inr (inl at.1)
           | inr off_target ↦
-              let at_p : PassesRouter net ends p router = record { path = path_p; there = there (source_router ends) router (map head_router path_p.arcs) in_p } in
+              let at_p : PassesRouter net ends p router = record { path = path_p; there = Contains-tail (source_router ends) router (map head_router path_p.arcs) in_p } in
               let never : (h : ℕ) → Contains (map head_router path_q.arcs) h → h ≢ router = λ (h : ℕ) (in_q : Contains (map head_router path_q.arcs) h) (same : h ≡ router).
               (let at_q : PassesRouter net ends q router =
-              record { path = path_q; there = there (source_router ends) router (map head_router path_q.arcs) (subst (Contains (map head_router path_q.arcs)) same in_q) } in
+              record { path = path_q; there = Contains-tail (source_router ends) router (map head_router path_q.arcs) (subst (Contains (map head_router path_q.arcs)) same in_q) } in
               elim (share router at_p at_q) [ inl source ↦ off_source.1 source | inr target ↦ off_target.1 target ]) in
               inr (inr (record { arcs = path_q.arcs; over = path_q.links; leads = path_q.leads; each = each_head (λ (h : ℕ). h ≢ router) path_q.arcs never }))
         ]
@@ -117,4 +117,4 @@ module _ (net : Network) (valid : IsValid net) (ends : Ends) where
 
 -- past the end of the list no pair is left
 pub pairs_end : {X : Type 0} (R : X → X → Type 0) (A : Type 0) (xs : List X) (i : ℕ) → length xs ≤ i → (A ↔ AllPairs R (drop i xs)) → A
-pairs_end {X} R A xs i past before = before.1 (subst (λ (ys : List X). AllPairs R ys) (sym (drop_all i xs past)) (pairs_none R))
+pairs_end {X} R A xs i past before = before.1 (subst (λ (ys : List X). AllPairs R ys) (sym (drop_all i xs past)) (AllPairs-none R))

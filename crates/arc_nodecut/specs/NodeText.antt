@@ -1,10 +1,10 @@
 -- The text of an answer about failed routers: a head line, a line with the answer and the number of
 -- lines that follow, the lines of the witness, and an end line.
-use Rattle.std.specs.Prelude.{ℕ, ◌+◌, List, [], ◌∷◌, ◌++◌, length, map, slice_get, codes, decimal}
+use Rattle.std.specs.Prelude.{ℕ, ◌+◌, List, [], ◌∷◌, ◌++◌, length, map, codes, decimal}
 use Rattle.std.specs.List.{concat}
-use Rattle.std.specs.Option.{option_map_or}
 use Rattle.arc_base.specs.declared.place.Router.{Router}
 use Rattle.net_model.specs.declared.rows.Network.{Network}
+use Rattle.policy_report.specs.Edits.{router_name}
 use Rattle.policy_report.specs.Lines.{line}
 use Rattle.policy_report.specs.Reports.{class_words, router_side_words, path_line, refused_line}
 use Rattle.arc_nodecut.specs.declared.verdict.NodeVerdict.{NodeVerdict}
@@ -20,13 +20,9 @@ answer_word (Denied class) = codes "no"
 answer_word (Cut routers side) = codes "no"
 answer_word (Refused p link) = codes "refused"
 
--- the name of the router
-abbrev pub router_word : Network → Router → List ℕ
-router_word net router = option_map_or (λ row. row.name) (slice_get net.routers router.0) []
-
 -- the line of a cut: the names of its routers, in order
 abbrev pub cut_line : Network → List Router → List ℕ
-cut_line net routers = line (codes "cut") (map (router_word net) routers)
+cut_line net routers = line (codes "cut") (map (router_name net) routers)
 
 -- the lines of the witness, with links counted from 1
 abbrev pub node_witness_lines : Network → NodeVerdict → List (List ℕ)

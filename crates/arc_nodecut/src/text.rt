@@ -1,7 +1,8 @@
 //! The text of a verdict on reach under failed routers.
-ghost use Rattle.arc_nodecut.specs.NodeText.{answer_word, router_word, cut_line};
+ghost use Rattle.arc_nodecut.specs.NodeText.{answer_word, cut_line};
 ghost use Rattle.arc_nodecut.specs.NodeText.{node_witness_lines, node_answer_line, nodes_text};
 ghost use Rattle.net_model.specs.declared.rows.Network.{Network};
+ghost use Rattle.policy_report.specs.Edits.{router_name};
 ghost use Rattle.policy_report.specs.Lines.{after_spaces, line};
 ghost use Rattle.std.specs.List.{concat};
 ghost use Rattle.std.specs.Prelude.{◌≡◌, ◌++◌, ◌∷◌, [], codes, decimal, length, map, IfOk, OnOk};
@@ -117,7 +118,7 @@ fn push_cut_line(text: &mut Vec<u8>, net: &Network, routers: &[Router]) -> Resul
 
 fn push_routers(text: &mut Vec<u8>, net: &Network, routers: &[Router]) -> Result<(), Memory>
     ensures { OnOk result
-        (text.new.items ≡ text.old.items ++ after_spaces (map (router_word net.now) routers.now)) }
+        (text.new.items ≡ text.old.items ++ after_spaces (map (router_name net.now) routers.now)) }
 {
     for router in routers {
         push_word(text, name(net, *router))?;
@@ -126,7 +127,7 @@ fn push_routers(text: &mut Vec<u8>, net: &Network, routers: &[Router]) -> Result
 }
 
 fn name(net: &Network, router: Router) -> &[u8]
-    ensures { result.now ≡ router_word net.now router }
+    ensures { result.now ≡ router_name net.now router }
 {
     match net.routers.get(router.0) {
         Some(row) => row.name.bytes(),

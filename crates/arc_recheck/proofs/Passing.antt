@@ -9,7 +9,8 @@ use Rattle.net_model.specs.Validity.{IsValid}
 use Rattle.net_laws.specs.Breaking.{no_link}
 use Rattle.net_laws.proofs.Decisions.{leaves_surely}
 use Rattle.net_laws.proofs.Existence.{some_stable_map}
-use Rattle.net_laws.proofs.RightCuts.{none_failed, source_in, stuck_at_source, value_of, walk_to}
+use Rattle.net_laws.proofs.RightCuts.{none_failed, source_in, stuck_at_source, walk_to}
+use Rattle.net_laws.proofs.StableMaps.{value_of}
 use Rattle.class_graph.specs.Passing.{EachPasses}
 use Rattle.witness_check.specs.Cases as cases
 

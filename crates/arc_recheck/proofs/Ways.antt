@@ -24,7 +24,7 @@ use Rattle.class_graph.specs.declared.hosts.End.{End}
 use Rattle.verdicts.proofs.Ways.{Arcs, arcs_of, shown_arc}
 use Rattle.net_laws.specs.Breaking.{no_link}
 use Rattle.net_laws.specs.Routes.{just, Route, HasRoute}
-use Rattle.arc_recheck.specs.Needed.{AreNeeded, IsNeededAnswer}
+use Rattle.arc_recheck.specs.Needed.{IsNeededAnswer}
 
 -- a path of arcs that are left is a route
 pub route_of_path : (net : Network) (to : Prefix) (failed : ℕ → Bool) (arcs : List Arc) (u v : ℕ) → Path net to u arcs v →

@@ -13,5 +13,5 @@ mod texts;
 
 pub use held::HeldBlocks;
 pub use rechecking::{Rechecked, recheck, recheck_few};
-pub use singles::{alone, alone_given, alone_with};
+pub use singles::{alone, alone_with};
 pub use texts::recheck_text;

@@ -1,26 +1,27 @@
 -- The open arcs of the graph of all routed arcs are a class's graph.
-use Rattle.std.proofs.Common.{◌≡◌, ◌≢◌, ◌↔◌, ℕ, ◌<◌, ◌≤◌, Bool, true, false, IsTrue, List, Some, None, length, get_or, Contains, inl, inr, refl, sym, ap, ◌∙◌, subst, arith}
+use Rattle.std.proofs.Common.{◌≡◌, ◌≢◌, ◌↔◌, ℕ, ◌<◌, ◌≤◌, Bool, true, false, IsTrue, List, Some, length, get_or, inl, inr, refl, sym, ap, ◌∙◌, subst, arith}
 use Rattle.std.specs.Prelude.{slice_get, if◌then◌else◌}
 use Rattle.std.proofs.lemmas.Bool.{cases_Bool, cases_lt, lt-ltb, le-ltb}
 use Rattle.std.proofs.lemmas.Option.{slice_get_within, slice_get-get_or}
 use Rattle.arc_base.specs.declared.prefix.Prefix.{Prefix}
 use Rattle.graph_flow.specs.declared.arcs.Arc as shown
 use Rattle.graph_flow.specs.declared.arcs.OpenLink.{OpenLink}
-use Rattle.graph_flow.specs.OpenLinks.{is_open_way, row_of, open_of, open_arcs}
+use Rattle.graph_flow.specs.OpenLinks.{is_open_way, row_of, open_arcs}
 use Rattle.graph_flow.specs.Paths.{Digraph}
-use Rattle.graph_flow.proofs.OpenArcs.{open-is, has-open, from-open}
+use Rattle.graph_flow.proofs.OpenArcs.{has-open, from-open}
 use Rattle.net_model.specs.declared.rows.FaceRow.{FaceRow}
 use Rattle.net_model.specs.declared.rows.LinkRow.{LinkRow}
 use Rattle.net_model.specs.declared.rows.Network.{Network}
 use Rattle.net_model.specs.Routing.{Arc, IsArc, tail_router, head_router}
 use Rattle.net_model.specs.Validity.{IsValid}
+use Rattle.net_model.proofs.Arcs.{IsArc-unique}
 use Rattle.class_graph.specs.declared.modes.Mode.{Mode}
 use Rattle.class_graph.specs.Answers.{EndsAllow}
 use Rattle.class_graph.specs.Building.{Answered}
 use Rattle.class_graph.specs.Graphs.{MayUse, IsShown, IsGraphOf, IsAnyArc, Shows}
 use Rattle.class_graph.specs.Parts.{Opens, IsOpenAt, AreOpenLinks}
 use Rattle.class_graph.proofs.Alike.{may_use_by}
-use Rattle.class_graph.proofs.NetworkArcs.{same_arc, apart_routers}
+use Rattle.class_graph.proofs.NetworkArcs.{apart_routers}
 
 -- whether a mode takes an arc, by what decides whether it permits packets
 pub takes_as : (mode : Mode) (taken permits waypoint : Bool) (Q : Type 0) → IsTrue taken ↔ MayUse mode (IsTrue permits) waypoint → IsTrue permits ↔ Q → IsTrue taken ↔ MayUse mode Q waypoint
@@ -54,11 +55,11 @@ module _ (net : Network) (mode : Mode) (answers : List Bool) (k : ℕ) (link : L
         | inl from_a ↦
             let here : Arc = record { link = k; from_a = true; row = link; tail = a; head = b } in
             subst (λ (x : Arc). Opens mode answers row x)
-            (same_arc net here arc (record { link = at_link; tail = at_a; head = at_b }) is_arc (sym of_link) (sym from_a)) forth
+            (IsArc-unique net here arc (record { link = at_link; tail = at_a; head = at_b }) is_arc (sym of_link) (sym from_a)) forth
         | inr from_b ↦
             let here : Arc = record { link = k; from_a = false; row = link; tail = b; head = a } in
             subst (λ (x : Arc). Opens mode answers row x)
-            (same_arc net here arc (record { link = at_link; tail = at_b; head = at_a }) is_arc (sym of_link) (sym from_b)) back
+            (IsArc-unique net here arc (record { link = at_link; tail = at_b; head = at_a }) is_arc (sym of_link) (sym from_b)) back
       ]
 
   pub opens_rising : (forth back : Bool) → IsTrue forth ↔ MayUse mode (EndsAllow answers a b) link.waypoint → IsTrue back ↔ MayUse mode (EndsAllow answers b a) link.waypoint →

@@ -1,7 +1,6 @@
 -- A graph that grows by the arcs of a network, one after the other.
-use Rattle.std.proofs.Common.{◌≡◌, ℕ, ◌+◌, ◌<◌, ◌≤◌, ◌⊎◌, ◌↔◌, Bool, true, false, List, [], ◌∷◌, ◌++◌, length, refl, sym, ap, ◌∙◌, subst, inl, inr, arith}
+use Rattle.std.proofs.Common.{◌≡◌, ℕ, ◌+◌, ◌<◌, ◌≤◌, ◌↔◌, Bool, true, false, List, [], ◌∷◌, ◌++◌, length, refl, sym, ap, ◌∙◌, subst, inl, inr, arith}
 use Rattle.std.specs.Prelude.{Contains, zero, suc, slice_index_or}
-use Rattle.std.proofs.lemmas.Bool.{cases_lt}
 use Rattle.std.proofs.lemmas.Option.{slice_get_within}
 use Rattle.std.proofs.lemmas.List.Elements.{Contains-append_left, Contains-append_right, Contains-append_cases}
 use Rattle.arc_base.specs.declared.place.Link.{Link}
@@ -14,9 +13,11 @@ use Rattle.net_model.specs.declared.rows.Protocol.{Protocol}
 use Rattle.net_model.specs.declared.rows.Protocol.TheVariants.{Ospf, Bgp}
 use Rattle.net_model.specs.Routing.{Arc, IsArc, tail_face, head_face, cost_at}
 use Rattle.net_model.specs.Validity.{IsValid}
+use Rattle.net_model.proofs.Arcs.{IsArc-unique}
 use Rattle.class_graph.specs.Graphs.{Shows, IsShown, IsGraphOf}
 use Rattle.class_graph.specs.Building.{number, IsTaken, IsArcOver, IsNoArcOver, IsShownBelow, IsGraphBelow, cost_from}
-use Rattle.class_graph.proofs.NetworkArcs.{same_arc, opposite, router_within, apart_routers}
+use Rattle.class_graph.proofs.NetworkArcs.{opposite, router_within, apart_routers}
+use Rattle.class_graph.proofs.Passing.{split_below}
 
 pub cost_is : (protocol : Protocol) (arc : Arc) → cost_from protocol arc.tail ≡ cost_at protocol arc
 cost_is Ospf arc = refl
@@ -30,7 +31,7 @@ directions l m false true same low = absurd (omega arith)
 directions l m false false same low = absurd (omega arith)
 
 -- a place is that of one link in one direction
-one_number : (l m : ℕ) (f g : Bool) → number l f ≡ number m g → (l ≡ m) × (f ≡ g)
+pub one_number : (l m : ℕ) (f g : Bool) → number l f ≡ number m g → (l ≡ m) × (f ≡ g)
 one_number l m true true same = (omega arith, refl)
 one_number l m true false same = absurd (omega arith)
 one_number l m false true same = absurd (omega arith)
@@ -62,7 +63,7 @@ share_of net to P link from_a other a below over =
       back = λ same. below.shows.head ∙ ap (λ (f : FaceRow). f.router.0) ((ends same).1) ∙ sym over.shows.tail;
     }
 
-same_fields : (l m : Link) (t u h k c d : ℕ) → l.0 ≡ m.0 → t ≡ u → h ≡ k → c ≡ d →
+pub same_fields : (l m : Link) (t u h k c d : ℕ) → l.0 ≡ m.0 → t ≡ u → h ≡ k → c ≡ d →
     ◌≡◌ {A = shown.Arc} (record { link = l; tail = t; head = h; cost = c }) (record { link = m; tail = u; head = k; cost = d })
 same_fields l m t u h k c d link tail head price =
     let link_of : ℕ → Link = λ n. record { 0 = n } in
@@ -74,9 +75,6 @@ same_shown : (net : Network) (arc : Arc) (a b : shown.Arc) → Shows net arc a �
 same_shown net arc a b of_a of_b =
     same_fields a.link b.link a.tail b.tail a.head b.head a.cost b.cost (of_a.link ∙ sym of_b.link) (of_a.tail ∙ sym of_b.tail) (of_a.head ∙ sym of_b.head)
     (of_a.cost_is ∙ sym of_b.cost_is)
-
-split_below : (n m : ℕ) → n < m + 1 → (n < m) ⊎ (n ≡ m)
-split_below n m low = elim (cases_lt n m) [ inl below ↦ inl below | inr above ↦ inr (omega arith) ]
 
 more_below : (net : Network) (to : Prefix) (P : Arc → Type 0) (n : ℕ) (a : shown.Arc) → IsShownBelow net to P n a → IsShownBelow net to P (n + 1) a
 more_below net to P n a below = record {
@@ -131,7 +129,7 @@ only_one : (net : Network) (to : Prefix) (P : Arc → Type 0) (link : ℕ) (from
 only_one net to P link from_a a b over n below place =
     let taken : IsTaken net to P link from_a below.arc = taken_at net to P link from_a b n below place in
     let same : over.arc ≡ below.arc =
-    same_arc net over.arc below.arc over.taken.is_arc below.is_arc (over.taken.of_link ∙ sym taken.of_link) (over.taken.direction ∙ sym taken.direction) in
+    IsArc-unique net over.arc below.arc over.taken.is_arc below.is_arc (over.taken.of_link ∙ sym taken.of_link) (over.taken.direction ∙ sym taken.direction) in
     same_shown net below.arc a b (subst (λ (arc : Arc). Shows net arc a) same over.shows) below.shows
 
 last_at : (a b : shown.Arc) (k : ℕ) → k < 1 → slice_index_or (a ∷ []) k b ≡ b → a ≡ b

@@ -11,10 +11,11 @@ use Rattle.net_model.specs.declared.rows.Network.{Network}
 use Rattle.net_model.specs.declared.tables.RoutedLink.{RoutedLink}
 use Rattle.net_model.specs.Routing.{Arc, IsArc, IsRouted, IsRoutedLink}
 use Rattle.net_model.specs.Tables.{AreRoutedLinks}
+use Rattle.net_model.proofs.Arcs.{IsArc-unique}
 use Rattle.class_graph.specs.Building.{flag}
 use Rattle.class_graph.specs.Graphs.{IsShown, IsGraphOf, IsAnyArc}
 use Rattle.class_graph.specs.Listed.{AreListed}
-use Rattle.class_graph.proofs.NetworkArcs.{same_arc, flag_tells}
+use Rattle.class_graph.proofs.NetworkArcs.{flag_tells}
 use Rattle.class_graph.specs.declared.last_graph.LastGraph.{LastGraph}
 use Rattle.class_graph.specs.LastGraphs.{IsGraphOfTable}
 
@@ -41,7 +42,7 @@ module _ (net : Network) (one other : Prefix) (table : List RoutedLink) (there :
       let up : IsTrue (flag flags arc.from_a) =
       (flag_tells net arc.link one flags (there.each arc.link flags at_link) arc.from_a).1 (record { arc = arc; link_is = refl; direction = refl; is_arc = is_arc; routed = routed }) in
       let found : IsRoutedLink net arc.link arc.from_a other = (flag_tells net arc.link other flags (here.each arc.link flags at_link) arc.from_a).0 up in
-      subst (λ (a : Arc). IsRouted net other a) (same_arc net found.arc arc found.is_arc is_arc found.link_is found.direction) found.routed
+      subst (λ (a : Arc). IsRouted net other a) (IsArc-unique net found.arc arc found.is_arc is_arc found.link_is found.direction) found.routed
 
   shown_too : (a : graphs.Arc) → IsShown net one IsAnyArc a → IsShown net other IsAnyArc a
   shown_too a shown = record { arc = shown.arc; is_arc = shown.is_arc; routed = routed_too shown.arc shown.is_arc shown.routed; fits = tt; shows = shown.shows }

@@ -11,22 +11,9 @@ use Rattle.net_model.specs.declared.tables.RoutedLink.{RoutedLink}
 use Rattle.net_model.specs.Routing.{Arc, IsArc, IsRouted, IsRoutedLink, tail_face, head_face, tail_end, head_end, tail_router, head_router}
 use Rattle.net_model.specs.Tables.{TellsRouted}
 use Rattle.net_model.specs.Validity.{IsValid, IsValidFace, IsValidLink}
+use Rattle.net_model.proofs.Arcs.{IsArc-unique}
 use Rattle.class_graph.specs.Building.{flag}
 use Rattle.class_graph.proofs.Readings.{one_item}
-
-pub same_parts : (l m : ℕ) (f g : Bool) (r s : LinkRow) (t u h k : FaceRow) → l ≡ m → f ≡ g → r ≡ s → t ≡ u → h ≡ k →
-    ◌≡◌ {A = Arc} (record { link = l; from_a = f; row = r; tail = t; head = h }) (record { link = m; from_a = g; row = s; tail = u; head = k })
-same_parts l m f g r s t u h k a b c d e = cc
-
--- a link and a direction have one arc
-pub same_arc : (net : Network) (a b : Arc) → IsArc net a → IsArc net b → a.link ≡ b.link → a.from_a ≡ b.from_a → a ≡ b
-same_arc net a b of_a of_b link direction =
-    let row : a.row ≡ b.row = one_item net.links a.link b.link a.row b.row link of_a.link of_b.link in
-    let tails : (tail_face a).0 ≡ (tail_face b).0 = ap (λ (r : LinkRow). (tail_end r a.from_a).0) row ∙ ap (λ (f : Bool). (tail_end b.row f).0) direction in
-    let heads : (head_face a).0 ≡ (head_face b).0 = ap (λ (r : LinkRow). (head_end r a.from_a).0) row ∙ ap (λ (f : Bool). (head_end b.row f).0) direction in
-    same_parts a.link b.link a.from_a b.from_a a.row b.row a.tail b.tail a.head b.head link direction row
-    (one_item net.faces (tail_face a).0 (tail_face b).0 a.tail b.tail tails of_a.tail of_b.tail)
-    (one_item net.faces (head_face a).0 (head_face b).0 a.head b.head heads of_a.head of_b.head)
 
 -- the two arcs of a link lead where the other comes from
 pub opposite : (net : Network) (a b : Arc) → IsArc net a → IsArc net b → a.link ≡ b.link → a.from_a ≡ true → b.from_a ≡ false →
@@ -84,5 +71,5 @@ read_arc net to link from_a row tail head tail_row head_row at_link tail_is head
     } in
     record {
       is_arc = is_arc;
-      routed = λ routed. subst (IsRouted net to) (same_arc net routed.arc arc routed.is_arc is_arc routed.link_is routed.direction) routed.routed;
+      routed = λ routed. subst (IsRouted net to) (IsArc-unique net routed.arc arc routed.is_arc is_arc routed.link_is routed.direction) routed.routed;
     }

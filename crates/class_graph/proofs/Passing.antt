@@ -12,7 +12,7 @@ use Rattle.class_graph.specs.Passing.{IsFirstAfter, EachPasses, AllPass, IsFirst
 pub item_here : {X : Type 0} (xs : List X) (i : ℕ) (x : X) → i < length xs → x ≡ get_or xs i x → slice_get xs i ≡ Some x
 item_here xs i x within read = slice_get_read xs (length xs) i x refl within read
 
-split_below : (n m : ℕ) → n < m + 1 → (n < m) ⊎ (n ≡ m)
+pub split_below : (n m : ℕ) → n < m + 1 → (n < m) ⊎ (n ≡ m)
 split_below n m low = elim (cases_lt n m) [ inl below ↦ inl below | inr above ↦ inr (omega arith) ]
 
 module _ (P : Class → Type 0) where

@@ -7,9 +7,9 @@ use Rattle.net_model.specs.declared.rows.FaceRow.{FaceRow}
 use Rattle.net_model.specs.declared.rows.LinkRow.{LinkRow}
 use Rattle.net_model.specs.declared.rows.Network.{Network}
 use Rattle.net_model.specs.Routing.{Arc}
+use Rattle.net_model.proofs.Arcs.{IsArc-unique}
 use Rattle.class_graph.specs.Answers.{Allows, ArcAllows}
 use Rattle.class_graph.specs.Listed.{IsUnlisted}
-use Rattle.class_graph.proofs.NetworkArcs.{same_arc}
 
 no_list : (answers : List Bool) (list : Option ListId) → list ≡ None → Allows answers list
 no_list answers list none = subst (λ (o : Option ListId). Allows answers o) (sym none) tt
@@ -22,11 +22,11 @@ unlisted net k link a b at_link at_a at_b no_a no_b arc is_arc of_link answers =
       | inl from_a ↦
           let here : Arc = record { link = k; from_a = true; row = link; tail = a; head = b } in
           subst (λ (x : Arc). ArcAllows answers x)
-          (same_arc net here arc (record { link = at_link; tail = at_a; head = at_b }) is_arc (sym of_link) (sym from_a))
+          (IsArc-unique net here arc (record { link = at_link; tail = at_a; head = at_b }) is_arc (sym of_link) (sym from_a))
           (no_list answers a.list_out no_a.1, no_list answers b.list_in no_b.0)
       | inr from_b ↦
           let here : Arc = record { link = k; from_a = false; row = link; tail = b; head = a } in
           subst (λ (x : Arc). ArcAllows answers x)
-          (same_arc net here arc (record { link = at_link; tail = at_b; head = at_a }) is_arc (sym of_link) (sym from_b))
+          (IsArc-unique net here arc (record { link = at_link; tail = at_b; head = at_a }) is_arc (sym of_link) (sym from_b))
           (no_list answers b.list_out no_b.1, no_list answers a.list_in no_a.0)
     ]

@@ -9,7 +9,6 @@ ghost use Rattle.std.specs.Prelude.{IfOk};
 
 use crate::first_denials::{Denial, first_denial};
 use crate::hosts::HostPair;
-use crate::listed::listed_links;
 use arc_base::{List, Memory};
 use net_model::{Class, Network};
 use std::alloc::Global;
@@ -24,25 +23,9 @@ pub enum Barrier {
 }
 
 /// The first link that denies some of the classes, where packets enter and leave at two routers; or
-/// else the first class with a packet that does not enter or does not leave.
+/// else the first class with a packet that does not enter or does not leave. The table is that of
+/// `listed_links`, which is the same for all policies.
 pub fn first_barrier(
-    alloc: Global,
-    net: &Network,
-    pair: &HostPair,
-    classes: &List<Class>,
-) -> Result<Option<Barrier>, Memory>
-    requires pair { HasHostPair net.now pair.now }
-    requires uniform { AreAllUniform net.now classes.now }
-    ensures { IfOk result (λ found. (ends : Ends) → IsHostPair net.now ends pair.now →
-        IsFirstBarrier net.now ends classes.now found) }
-{
-    let listed = listed_links(alloc, net)?;
-    first_barrier_by(alloc, net, pair, classes, &listed)
-}
-
-/// The barrier of `first_barrier`, where the table is that of the links with packet lists, which is
-/// the same for all policies.
-pub fn first_barrier_by(
     alloc: Global,
     net: &Network,
     pair: &HostPair,

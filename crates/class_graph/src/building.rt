@@ -1,8 +1,8 @@
 //! Building the graph of a class, or of all routed arcs.
 ghost use Rattle.class_graph.specs.Building.{Answered};
-ghost use Rattle.class_graph.specs.Graphs.{IsGraphOf, IsAnyArc, IsClassGraph, IsGraphOfClass};
-ghost use Rattle.class_graph.specs.Hosts.{IsHostPair, HasHostPair};
-ghost use Rattle.net_model.specs.Forwarding.{HasEnds, Ends};
+ghost use Rattle.class_graph.specs.Graphs.{IsGraphOf, IsAnyArc, IsGraphOfClass};
+ghost use Rattle.class_graph.specs.Hosts.{HasHostPair};
+ghost use Rattle.net_model.specs.Forwarding.{HasEnds};
 ghost use Rattle.net_model.specs.Tables.{AreRoutedLinks};
 ghost use Rattle.net_model.specs.Validity.{IsValid};
 ghost use Rattle.net_model.specs.Witnesses.{IsUniformFor};
@@ -29,33 +29,16 @@ pub struct ClassGraph {
 }
 
 /// The graph of a class that goes from one host network to another, and on which each packet list
-/// is uniform. For the classes of one policy find their `host_pair` once, and call `build_between`.
+/// is uniform.
 pub fn build(alloc: Global, net: &Network, class: Class, mode: Mode) -> Result<ClassGraph, Memory>
     requires valid { IsValid net.now }
     requires ends { HasEnds net.now class }
     requires uniform { IsUniformFor net.now class }
     ensures { IfOk result (IsGraphOfClass net.now class mode) }
 {
-    let pair = host_pair(alloc, net, class)?;
-    build_between(alloc, net, &pair, class, mode)
-}
-
-/// The graph of a class between two host networks.
-pub fn build_between(
-    alloc: Global,
-    net: &Network,
-    pair: &HostPair,
-    class: Class,
-    mode: Mode,
-) -> Result<ClassGraph, Memory>
-    requires valid { IsValid net.now }
-    requires pair { HasHostPair net.now pair.now }
-    requires uniform { IsUniformFor net.now class }
-    ensures { IfOk result (λ graph. (ends : Ends) → IsHostPair net.now ends pair.now →
-        IsClassGraph net.now ends class mode graph) }
-{
+    let pair = host_pair(alloc, net, class, &None)?;
     let answers = list_answers(alloc, net, class)?;
-    let graph = graph_of(alloc, net, pair, &answers, mode)?;
+    let graph = graph_of(alloc, net, &pair, &answers, mode)?;
     Ok(ClassGraph {
         graph,
         source: pair.source.router,

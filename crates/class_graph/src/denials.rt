@@ -5,37 +5,19 @@ ghost use Rattle.class_graph.specs.Hosts.{HasHostPair};
 ghost use Rattle.class_graph.specs.Listed.{AreListed};
 ghost use Rattle.net_model.specs.Tables.{AreRoutedLinks};
 ghost use Rattle.net_model.specs.Witnesses.{IsUniformFor};
-ghost use Rattle.std.specs.Prelude.{◌≡◌, ◌↔◌, ℕ, IsTrue, IsFalse, IfOk, IfSome, IfNone};
-ghost use Rattle.std.specs.Prelude.{MatchOption};
-ghost use Rattle.std.specs.Prelude.{Some, false, slice_get};
+ghost use Rattle.std.specs.Prelude.{◌≡◌, ◌↔◌, ℕ, IsTrue, IsFalse, IfOk, IfSome, IfNone, slice_get};
+ghost use Rattle.std.specs.Prelude.{MatchOption, Some, false};
 
 use crate::answers::{arc_allows, list_answers};
 use crate::arcs::leads;
 use crate::hosts::HostPair;
-use crate::listed::listed_links;
 use arc_base::{Link, List, Memory};
 use net_model::{Class, Network};
 use std::alloc::Global;
 
-/// The first link over which an arc is routed that denies the class.
-pub fn denied_link(
-    alloc: Global,
-    net: &Network,
-    pair: &HostPair,
-    class: Class,
-) -> Result<Option<Link>, Memory>
-    requires pair { HasHostPair net.now pair.now }
-    requires uniform { IsUniformFor net.now class }
-    ensures { IfOk result (λ found.
-        MatchOption found (IsDeniedNowhere net.now pair.now.to class) (λ link.
-        IsLeastDenied net.now pair.now.to class link.0)) }
-{
-    let listed = listed_links(alloc, net)?;
-    denied_link_by(alloc, net, pair, class, &listed)
-}
-
-/// The link of `denied_link`, where the table is that of the links with packet lists.
-pub(crate) fn denied_link_by(
+/// The first link over which an arc is routed that denies the class. The table is that of the links
+/// with packet lists.
+pub(crate) fn denied_link(
     alloc: Global,
     net: &Network,
     pair: &HostPair,

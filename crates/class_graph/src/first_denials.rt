@@ -5,7 +5,7 @@ ghost use Rattle.class_graph.specs.Hosts.{HasHostPair};
 ghost use Rattle.class_graph.specs.Listed.{AreListed};
 ghost use Rattle.std.specs.Prelude.{◌≡◌, length, IfOk};
 
-use crate::denials::denied_link_by;
+use crate::denials::denied_link;
 use crate::hosts::HostPair;
 use arc_base::{Link, List, Memory};
 use net_model::{Class, Network};
@@ -34,7 +34,7 @@ pub(crate) fn first_denial(
 {
     let mut best = None;
     for class in classes.slice() {
-        let found = denied_link_by(alloc, net, pair, *class, listed)?;
+        let found = denied_link(alloc, net, pair, *class, listed)?;
         best = lower(best, found, *class);
     }
     Ok(best)

@@ -89,17 +89,10 @@ impl HostPair {
     }
 }
 
-/// What the class shares with all classes between the same two host networks.
-pub fn host_pair(alloc: Global, net: &Network, class: Class) -> Result<HostPair, Memory>
-    requires ends { HasEnds net.now class }
-    ensures { IfOk result (IsHostPairOf net.now class) }
-{
-    host_pair_by(alloc, net, class, &None)
-}
-
-/// What `host_pair` gives. Which arcs are routed is not asked again where the network answers the
-/// same of the host network as of that of the last graph.
-pub fn host_pair_by(
+/// What the class shares with all classes between the same two host networks. Which arcs are routed
+/// is not asked again where the network answers the same of the host network as of that of the last
+/// graph.
+pub fn host_pair(
     alloc: Global,
     net: &Network,
     class: Class,

@@ -18,11 +18,11 @@ mod same_routes;
 
 pub use answers::list_answers;
 pub use arcs::{cost, leads};
-pub use barriers::{Barrier, first_barrier, first_barrier_by};
-pub use building::{ClassGraph, build, build_between, routed_graph};
-pub use denials::denied_link;
+pub use barriers::{Barrier, first_barrier};
+pub use building::{ClassGraph, build, routed_graph};
 pub use first_denials::Denial;
-pub use hosts::{End, HostPair, host_pair, host_pair_by};
+pub use hosts::{End, HostPair, host_pair};
 pub use last_graph::{LastGraph, graph_in, listed_in, refresh_graph};
+pub use listed::listed_links;
 pub use modes::Mode;
 pub use parts::{ClassPart, class_part};

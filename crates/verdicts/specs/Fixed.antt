@@ -15,8 +15,7 @@ use Rattle.net_model.specs.declared.verdicts.Verdict.TheVariants.{Closed, Paths,
 use Rattle.net_model.specs.declared.verdicts.Verdict.TheVariants.{Refused}
 use Rattle.net_model.specs.Packets.{IsOfClass, subject, first_packet}
 use Rattle.net_model.specs.Routing.{Arc, IsArc, IsRouted}
-use Rattle.net_model.specs.Forwarding.{Ends, AreEnds, source_router, target_router}
-use Rattle.net_model.specs.Forwarding.{ArcPermits}
+use Rattle.net_model.specs.Forwarding.{Ends, AreEnds, source_router, target_router, ArcPermits}
 use Rattle.net_model.specs.Witnesses.{IsOn, IsClosed, LeavesSide}
 use Rattle.class_graph.specs.Denials.{IsDeniedOn}
 use Rattle.class_graph.specs.Passing.{IsFirstAfter, EachPasses}

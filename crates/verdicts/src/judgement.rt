@@ -19,9 +19,7 @@ use crate::blocking::judge_blocking;
 use crate::fault::JudgeFault;
 use crate::reach::judge_reach;
 use arc_base::{List, Memory};
-use class_graph::{
-    HostPair, LastGraph, graph_in, host_pair, host_pair_by, listed_in, refresh_graph,
-};
+use class_graph::{HostPair, LastGraph, graph_in, host_pair, listed_in, refresh_graph};
 use net_model::{Class, Network, Policy, PolicyKind, Verdict};
 use std::alloc::Global;
 use traffic_classes::Marks;
@@ -52,7 +50,7 @@ pub fn judge(
     };
     let marks = Marks::of(alloc, net, policies)?;
     let parts = marks.classes(alloc, policy)?;
-    let pair = host_pair(alloc, net, policy.subject())?;
+    let pair = host_pair(alloc, net, policy.subject(), &None)?;
     let mut last = None;
     let verdict = judge_classes(alloc, net, &pair, &parts, policy.kind, &mut last)?;
     Ok(verdict)
@@ -81,7 +79,7 @@ pub fn judge_few(
     ensures last { IfSome last.new (IsGraphOfTable net.now) }
 {
     let parts = marks.split(alloc, policy)?;
-    let pair = host_pair_by(alloc, net, policy.subject(), last)?;
+    let pair = host_pair(alloc, net, policy.subject(), last)?;
     let verdict = judge_classes(alloc, net, &pair, &parts, policy.kind, last)?;
     Ok(verdict)
 }

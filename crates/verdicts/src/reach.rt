@@ -15,7 +15,7 @@ ghost use Rattle.verdicts.specs.Reaching.{IsPathsOrCut, paths_of};
 
 use arc_base::limits::FAILURE_LIMIT;
 use arc_base::{Link, List, Memory};
-use class_graph::{Barrier, HostPair, first_barrier_by};
+use class_graph::{Barrier, HostPair, first_barrier};
 use graph_flow::{FlowAnswer, Graph, LinkRow2, disjoint};
 use net_model::{Class, LinkPath, Network, Verdict};
 use std::alloc::Global;
@@ -41,7 +41,7 @@ pub(crate) fn judge_reach(
         IsHostPair net.now ends pair.now → MakeUp net.now whole classes.now →
         IsReachVerdict net.now ends failures whole classes.now v) }
 {
-    let found = first_barrier_by(alloc, net, pair, classes, listed)?;
+    let found = first_barrier(alloc, net, pair, classes, listed)?;
     let Some(barrier) = found else {
         return judge_open(alloc, net, pair, failures, graph);
     };
