@@ -1,14 +1,15 @@
 -- What is left once the copies of changed files are written.
-use Rattle.std.proofs.Common.{◌≡◌, ◌≢◌, ℕ, suc, inl, inr, Bool, true, false, cond, Some, List, [], ◌∷◌, refl, sym, ◌∙◌, ap, arith}
+use Rattle.std.proofs.Common.{◌≡◌, ◌≢◌, ℕ, inl, inr, Bool, true, false, cond, Some, List, [], ◌∷◌, refl, sym, ◌∙◌, ap}
 use Rattle.std.specs.Prelude.{bytes_eq, ◌||◌, AllPairs, Contains}
 use Rattle.std.specs.List.{list_any, AllZip}
 use Rattle.std.proofs.lemmas.Bool.{or_parts}
 use Rattle.std.proofs.lemmas.List.{append_cancel_right}
-use Rattle.arc_base.proofs.Items.{Contains-head, Contains-tail, Contains-cases, Contains-none, Contains-map}
+use Rattle.arc_base.proofs.Items.{Contains-head, Contains-tail, Contains-cases, Contains-none, Contains-map, AllPairs-first, AllPairs-rest}
 use Rattle.arc_outside.specs.Files.{Files, with_file, with_files}
+use Rattle.arc_outside.proofs.OnShelf.{held_before}
 use Rattle.file_copies.specs.Outputs.{copy_name, copy_names, copies, clashes, IsLeft, CopiesAreLeft}
 use Rattle.file_copies.proofs.Copied.{same_texts}
-use Rattle.file_copies.proofs.OneMore.{is_written, none_is, other_kept}
+use Rattle.file_copies.proofs.OneMore.{is_written, none_is}
 
 free_of : (inputs outputs : List (List ℕ)) (input output : List ℕ) → clashes inputs outputs ≡ false → Contains outputs output → Contains inputs input → input ≡ output → ⊥
 free_of inputs [] input output free of within same = Contains-none output of
@@ -24,7 +25,7 @@ module _ (suffix : List ℕ) where
   step : (same : Bool) (pair : List ℕ × List ℕ) (rest : List (List ℕ × List ℕ)) (files : Files) (q : List ℕ) → (pair.0 ≡ q → ⊥) → ((now : Files) → with_files rest now q ≡ now q) →
       with_files (cond same rest (pair ∷ rest)) files q ≡ files q
   step true pair rest files q other keeps = keeps files
-  step false pair rest files q other keeps = keeps (with_file files pair.0 pair.1) ∙ other_kept files pair.0 pair.1 q other
+  step false pair rest files q other keeps = keeps (with_file files pair.0 pair.1) ∙ held_before files pair.0 pair.1 q other
 
   -- a name that is no copy's holds what it held
   untouched : (names olds news : List (List ℕ)) (q : List ℕ) → ((n : List ℕ) → Contains names n → copy_name suffix n ≡ q → ⊥) → (files : Files) →
@@ -46,15 +47,9 @@ module _ (suffix : List ℕ) where
     still_held x z files [] (o ∷ olds) of within held = held
     still_held x z files (n ∷ names) [] of within held = held
     still_held x z files (n ∷ names) (o ∷ olds) of within held = (
-      (held.0.0, other_kept files (copy_name suffix x) z n (free x n of (within n (Contains-head n names))) ∙ held.0.1),
+      (held.0.0, held_before files (copy_name suffix x) z n (free x n of (within n (Contains-head n names))) ∙ held.0.1),
       still_held x z files names olds of (λ m inside. within m (Contains-tail n m names inside)) held.1,
     )
-
-    tail_apart : (x : List ℕ) (names : List (List ℕ)) → AllPairs ◌≢◌ (x ∷ names) → AllPairs ◌≢◌ names
-    tail_apart x names apart = λ i j d less within. apart (suc i) (suc j) d (omega (arith, less)) (omega (arith, within))
-
-    head_apart : (x : List ℕ) (names : List (List ℕ)) → AllPairs ◌≢◌ (x ∷ names) → (n : List ℕ) → Contains names n → n ≡ x → ⊥
-    head_apart x names apart n (k, within, is) same = apart 0 (suc k) n (omega arith) (omega (arith, within)) (sym same ∙ sym is)
 
     abbrev Others : List (List ℕ) → List (List ℕ) → List (List ℕ) → Type 0
     Others names olds news = (now : Files) → AllZip (Held now) names olds → AllZip (IsLeft suffix before (with_files (copies suffix names olds news) now)) names news
@@ -70,7 +65,8 @@ module _ (suffix : List ℕ) where
     one_left false x y z names olds news files e of within apart held rest others =
         let now : Files = with_file files (copy_name suffix x) z in (
           inl (
-              untouched names olds news (copy_name suffix x) (λ n inside same. head_apart x names apart n inside (append_cancel_right n x suffix same)) now
+              untouched names olds news (copy_name suffix x) (λ n inside same.
+              AllPairs-first (λ (a : List ℕ) (b : List ℕ). a ≢ b) x n names apart inside (sym (append_cancel_right n x suffix same))) now
               ∙ is_written files (copy_name suffix x) z
               ),
           others now (still_held x z files names olds of within rest),
@@ -86,7 +82,7 @@ module _ (suffix : List ℕ) where
     all_left (x ∷ names) (y ∷ olds) (z ∷ news) files within apart held long =
         let later : (n : List ℕ) → Contains names n → Contains all n = λ n inside. within n (Contains-tail x n names inside) in
         one_left (bytes_eq y z) x y z names olds news files refl (within x (Contains-head x names)) later apart held.0 held.1
-        (λ now still. all_left names olds news now later (tail_apart x names apart) still long.1)
+        (λ now still. all_left names olds news now later (AllPairs-rest (λ (a : List ℕ) (b : List ℕ). a ≢ b) x names apart) still long.1)
 
 held_twice : (before : Files) (names olds : List (List ℕ)) → AllZip (λ name old. before name ≡ Some old) names olds →
     AllZip (λ name old. (before name ≡ Some old) × (before name ≡ Some old)) names olds

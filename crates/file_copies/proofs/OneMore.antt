@@ -5,22 +5,13 @@ use Rattle.std.specs.List.{list_any, AllZip}
 use Rattle.std.proofs.lemmas.Bool.{false≢true, or_from, or_parts}
 use Rattle.std.proofs.lemmas.List.Folds.{list_any-append}
 use Rattle.arc_base.proofs.Items.{Contains-head, Contains-tail, Contains-cases, Contains-none, Contains-map}
-use Rattle.arc_outside.specs.Files.{Files, with_file, with_files}
+use Rattle.arc_outside.specs.Files.{Files, with_file}
+use Rattle.arc_outside.proofs.OnShelf.{held_before}
 use Rattle.net_model.specs.declared.policies.Document.{Document}
 use Rattle.file_copies.specs.Outputs.{copy_name, copy_names, clashes, IsLeft}
-use Rattle.file_copies.proofs.Copied.{texts_same, texts_differ}
+use Rattle.file_copies.proofs.Copied.{texts_same}
 
--- ---- what is written one after another
-
-pub written_after : (one more : List (List ℕ × List ℕ)) (files : Files) → with_files (one ++ more) files ≡ with_files more (with_files one files)
-written_after [] more files = refl
-written_after (pair ∷ one) more files = written_after one more (with_file files pair.0 pair.1)
-
-pub written_last : (one : List (List ℕ × List ℕ)) (name bytes : List ℕ) (files : Files) → with_files (one ++ (name, bytes) ∷ []) files ≡ with_file (with_files one files) name bytes
-written_last one name bytes files = written_after one ((name, bytes) ∷ []) files
-
-pub other_kept : (files : Files) (name bytes q : List ℕ) → (name ≡ q → ⊥) → with_file files name bytes q ≡ files q
-other_kept files name bytes q other = ap (λ (b : Bool). cond b (Some bytes) (files q)) (texts_differ name q other)
+-- ---- what is written is held
 
 pub is_written : (files : Files) (name bytes : List ℕ) → with_file files name bytes name ≡ Some bytes
 is_written files name bytes = ap (λ (b : Bool). cond b (Some bytes) (files name)) (texts_same name name refl)
@@ -66,8 +57,8 @@ free_last inputs (x ∷ outputs) last free =
 
 module _ (suffix : List ℕ) (before after : Files) (name bytes : List ℕ) where
   one_left : (q text : List ℕ) → (copy_name suffix q ≡ name → ⊥) → (q ≡ name → ⊥) → IsLeft suffix before after q text → IsLeft suffix before (with_file after name bytes) q text
-  one_left q text copy own (inl changed) = inl (other_kept after name bytes (copy_name suffix q) (λ e. copy (sym e)) ∙ changed)
-  one_left q text copy own (inr same) = inr (same.0, other_kept after name bytes q (λ e. own (sym e)) ∙ same.1)
+  one_left q text copy own (inl changed) = inl (held_before after name bytes (copy_name suffix q) (λ e. copy (sym e)) ∙ changed)
+  one_left q text copy own (inr same) = inr (same.0, held_before after name bytes q (λ e. own (sym e)) ∙ same.1)
 
   all_left : (names texts : List (List ℕ)) → ((q : List ℕ) → Contains names q → copy_name suffix q ≡ name → ⊥) → ((q : List ℕ) → Contains names q → q ≡ name → ⊥)
       → AllZip (IsLeft suffix before after) names texts → AllZip (IsLeft suffix before (with_file after name bytes)) names texts

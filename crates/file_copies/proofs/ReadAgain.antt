@@ -6,17 +6,17 @@ use Rattle.std.proofs.lemmas.Bool.{or_from, or_parts}
 use Rattle.std.proofs.lemmas.List.Elements.{All-cons, All-nil}
 use Rattle.arc_base.proofs.Items.{Contains-head, Contains-tail}
 use Rattle.arc_outside.specs.Files.{Files, with_file, with_files}
+use Rattle.arc_outside.proofs.OnShelf.{held_before}
 use Rattle.net_model.specs.declared.policies.Document.{Document}
 use Rattle.net_build.specs.declared.built.Built.{Built}
 use Rattle.edit_list.specs.declared.edit_kinds.Edit.{Edit}
 use Rattle.file_copies.specs.Outputs.{copy_name, copy_names, copies, clashes, IsLeft}
 use Rattle.file_copies.proofs.Left.{copies_left}
-use Rattle.file_copies.proofs.OneMore.{other_kept}
 use Rattle.run_files.specs.declared.outcome.FileRefusal.{FileRefusal}
 use Rattle.run_files.specs.declared.limits.Limits.TheVariants.{Editing}
 use Rattle.run_files.specs.Limits.{router_limit, routers_limit}
 use Rattle.run_files.specs.Refusals.{bytes_at, first_refusal, read_refusal, refusal_within}
-use Rattle.std.specs.Option.{option_or}
+use Rattle.run_files.proofs.OneAnswer.{first_none, second_none}
 use Rattle.run_inputs.specs.Inputs.{HoldsInput, contents}
 use Rattle.file_copies.specs.Changes.{changed_names, Changes, ChangesAreLeft, IsEditable}
 
@@ -34,14 +34,6 @@ fewer_inputs input inputs (name ∷ outputs) free =
     (or_from (list_any is outputs) (clashes inputs outputs) rest.0 (fewer_inputs input inputs outputs rest.1))
 
 -- ---- files that are held
-
-first_none : (o s : Option FileRefusal) → option_or o s ≡ None → o ≡ None
-first_none None s e = refl
-first_none (Some r) s e = absurd (cc)
-
-second_none : (o s : Option FileRefusal) → option_or o s ≡ None → s ≡ None
-second_none None s e = e
-second_none (Some r) s e = absurd (cc)
 
 held_bytes : (limit : ℕ) (name : List ℕ) (o : Option (List ℕ)) → refusal_within limit name o ≡ None → o ≡ Some (unwrap_or o [])
 held_bytes limit name None e = absurd (cc)
@@ -89,7 +81,7 @@ others_kept [] q none files = refl
 others_kept (write ∷ writes) q none files =
     let P : List ℕ → Type 0 = λ n. Contains (map name_written (write ∷ writes)) n in
     others_kept writes q (λ within. none (Contains-tail write.0 q (map name_written writes) within)) (with_file files write.0 write.1)
-    ∙ other_kept files write.0 write.1 q (λ same. none (subst P same (Contains-head write.0 (map name_written writes))))
+    ∙ held_before files write.0 write.1 q (λ same. none (subst P same (Contains-head write.0 (map name_written writes))))
 
 -- a name that is not that of the copy of a changed file holds what it held
 pub unchanged_kept : (suffix : List ℕ) (doc : Document) (built : Built) (chosen : List Edit) (writes : List (List ℕ × List ℕ)) (files : Files)

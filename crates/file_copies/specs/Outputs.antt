@@ -25,6 +25,11 @@ clashes inputs (name ∷ outputs) =
     list_any (λ other. bytes_eq other name) inputs ||
     (list_any (λ other. bytes_eq other name) outputs || clashes inputs outputs)
 
+-- the copy of a file with its name, if it is changed
+abbrev pub one_copy : List ℕ → List ℕ → List ℕ → List ℕ → List (List ℕ × List ℕ)
+one_copy suffix name old new =
+    if bytes_eq old new then [] else (copy_name suffix name, new) ∷ []
+
 -- the copies of the changed files, in their order, with their names
 abbrev pub copies : List ℕ → List (List ℕ) → List (List ℕ) → List (List ℕ) → List (List ℕ × List ℕ)
 copies suffix (name ∷ names) (old ∷ olds) (new ∷ news) =

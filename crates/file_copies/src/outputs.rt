@@ -1,7 +1,8 @@
 //! The files that a command writes beside those that it read.
-ghost use Rattle.file_copies.specs.Outputs.{clashes, copies, copy_names, wrote_lines};
+ghost use Rattle.file_copies.specs.Outputs.{clashes, copies, copy_names, one_copy, wrote_lines};
 ghost use Rattle.std.specs.List.{list_any};
-ghost use Rattle.std.specs.Prelude.{◌≡◌, ◌++◌, ◌||◌, ◌∷◌, length, IfOk, bytes_eq};
+ghost use Rattle.std.specs.Prelude.{◌≡◌, ◌<◌, ◌-◌, ◌^◌, ◌++◌, ◌||◌, ◌∷◌, length, IfOk, OnOk};
+ghost use Rattle.std.specs.Prelude.{bytes_eq};
 
 use arc_base::{List, Memory, Name};
 use std::alloc::Global;
@@ -56,6 +57,27 @@ pub fn clashes(document: &Name, routers: &[Name], outputs: &[Name]) -> bool
     false
 }
 
+/// Adds the copy of a file, if it is changed.
+fn push_changed(
+    alloc: Global,
+    writes: &mut List<(Name, Name)>,
+    suffix: &Name,
+    name: &Name,
+    old: &Name,
+    new: &Name,
+) -> Result<(), Memory>
+    requires { length writes.old < 2 ^ 32 - 1 }
+    ensures { OnOk result
+        (writes.new ≡ writes.old ++ one_copy suffix.now name.now old.now new.now) }
+{
+    if new.is(old.bytes()) {
+        return Ok(());
+    }
+    let name = joined(alloc, name.bytes(), suffix.bytes())?;
+    writes.push((name, Name::make(alloc, new.bytes())?))?;
+    Ok(())
+}
+
 /// The copies of the changed files, with their names.
 pub fn copies(
     alloc: Global,
@@ -70,10 +92,7 @@ pub fn copies(
 {
     let mut writes = List::make(alloc);
     for (at, text) in new.slice().iter().enumerate() {
-        if !text.is(old[at].bytes()) {
-            let name = joined(alloc, names[at].bytes(), suffix.bytes())?;
-            writes.push((name, Name::make(alloc, text.bytes())?))?;
-        }
+        push_changed(alloc, &mut writes, suffix, &names[at], &old[at], text)?;
     }
     Ok(writes)
 }

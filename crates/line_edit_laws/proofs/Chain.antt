@@ -6,7 +6,7 @@ use Rattle.std.proofs.lemmas.Bool.{eqb-true, eqb-false}
 use Rattle.std.proofs.Math.Seq.{take-append_seam, drop-append_seam}
 use Rattle.std.proofs.lemmas.List.Elements as elements
 use Rattle.arc_base.proofs.Items.{Contains-cases}
-use Rattle.ios_lines.specs.Kinds.{kind, kind_at, closes, is_inert, open_banner, IsInner, IsSingle, IsHead}
+use Rattle.ios_lines.specs.Kinds.{kind, kind_at, closes, is_inert, open_banner, IsInner}
 use Rattle.ios_lines.specs.Views.{open_block}
 use Rattle.arc_base.specs.Words.{words}
 use Rattle.ios_lines.proofs.Insertions.{open-low}
@@ -30,7 +30,7 @@ use Rattle.line_edit_laws.specs.Sites.{Written, Chunk, Single as SingleLine, New
 use Rattle.line_edit_laws.specs.Sites.{own_commands, site_commands, new_lines, new_commands, IsInnerOf, IsEntryOf, IsBlockLine, IsNewBlock, AreChunks, IsRewrittenFor, IsGood, AreGood}
 use Rattle.line_edit_laws.proofs.Alike.{config-alike, once-alike}
 use Rattle.line_edit_laws.proofs.States as states
-use Rattle.line_edit_laws.proofs.States.{State, AreLow, AreHigh, Closes, kept-fixed, kept-key, put-inner, put-single, put-closing, put-head, low-more}
+use Rattle.line_edit_laws.proofs.States.{State, AreLow, Closes, kept-fixed, kept-key, put-inner, put-single, put-closing, put-head, low-more}
 use Rattle.line_edit_laws.proofs.Shifts.{RowOf, row-of, contains-middle, renamed-old, shift-none, shift-command, shift-written, banner-more, head-opens-block}
 
 -- the written line is one of the open block of this number, which is that of another number here
@@ -63,12 +63,6 @@ module _ (most key own : ℕ) (first : List (List ℕ)) (front : List FileComman
       ap (λ (k : ℕ). states.kept most key own first front (bytes_of ws ++ others) (map (in_block here) ws ++ alike) rest few own_low (Block k)) keyed.0 ∙
       kept-key most key own first front (bytes_of ws ++ others) (map (in_block here) ws ++ alike) rest few own_low ∙ ap Block (sym keyed.1))
       told)
-
-single-closes : (line : List ℕ) → IsSingle line → IsTrue (closes (kind line))
-single-closes line is = ap closes is
-
-head-closes : (line : List ℕ) → IsHead line → IsTrue (closes (kind line))
-head-closes line is = ap closes is
 
 module _ (first : List (List ℕ)) (front : List FileCommand) (banner : open_banner first ≡ None) (low : AreLow (length first) front) where
   abbrev p : ℕ
@@ -135,7 +129,7 @@ module _ (first : List (List ℕ)) (front : List FileCommand) (banner : open_ban
       record {
         state = put-single most 0 0 first front (flat_map chunk_lines ts ++ others) (flat_map chunk_commands ts ++ alike) rest.state few
             (omega arith) w all.0.name banner rest.closes_it all.0.single all.0.reads all.0.part;
-        closes_it = single-closes w.line all.0.single;
+        closes_it = ap closes all.0.single;
       }
   put-tops most few number under (NewBlock key head inner close ∷ ts) others alike all t =
       let rest = put-tops most few number under ts others alike all.1 t in
@@ -147,7 +141,7 @@ module _ (first : List (List ℕ)) (front : List FileCommand) (banner : open_ban
       record {
         state = subst (State most 0 0 first front ((chunk_lines (NewBlock key head inner close) ++ flat_map chunk_lines ts) ++ others)) says
             (subst (λ (ls : List (List ℕ)). State most 0 0 first front ls (chunk_commands (NewBlock key head inner close) ++ (flat_map chunk_commands ts ++ alike))) lines one);
-        closes_it = head-closes head.line all.0.heads;
+        closes_it = ap closes all.0.heads;
       }
 
 -- the site of one command, where the lines after it have theirs
@@ -212,46 +206,30 @@ module _ (known : List FileCommand) (put : FileCommand → Site) (first : List (
       (Contains-cases c head ds late))
       (elements.Contains-append_cases front (c ∷ ds) head (subst (λ (l : List FileCommand). Contains l head) whole there))
 
+  here : (list : List FileCommand) → ((head : FileCommand) → Contains known head → head.line ≡ c.block → Contains list head) → (w : Written) → IsInnerOf known c w →
+      IsHere list c.block c.block w
+  here list among w one = record {
+    within = one.within;
+    head = one.head;
+    among = among one.head one.among one.number;
+    number = one.number;
+    opens = one.opens;
+    known = one.known;
+    inner = one.inner;
+    reads = one.reads;
+    part = one.part;
+    part_here = one.part;
+  }
+
   here-after : (ws : List Written) → AllByRecursion (IsInnerOf known c) ws → AllByRecursion (IsHere (front ++ c ∷ []) c.block c.block) ws
   here-after [] all = tt
-  here-after (w ∷ ws) all =
-      let one = all.0 in (
-        record {
-          within = one.within;
-          head = one.head;
-          among = among-more one.head one.among (let n = one.number in let u = under in omega arith);
-          number = one.number;
-          opens =
-              one.opens;
-          known = one.known;
-          inner = one.inner;
-          reads = one.reads;
-          part = one.part;
-          part_here = one.part;
-        },
-        here-after ws all.1,
-      )
+  here-after (w ∷ ws) all = (here (front ++ c ∷ []) (λ head there at. among-more head there (let u = under in omega arith)) w all.0, here-after ws all.1)
 
   here-before : (ws : List Written) → AllByRecursion (IsEntryOf known c) ws → AllByRecursion (IsHere front c.block c.block) ws
   here-before [] all = tt
   here-before (w ∷ ws) all =
-      let one = all.0.is_inner in
-      let other = all.0.no_head in (
-        record {
-          within = one.within;
-          head = one.head;
-          among = earlier one.head one.among (let n = one.number in let u = under in omega arith);
-          number = one.number;
-          opens =
-              one.opens;
-          known = one.known;
-          inner = one.inner;
-          reads = one.reads;
-          part = one.part;
-          part_here = one.part;
-        },
-        here-before ws all.1,
-      )
+      let other = all.0.no_head in
+      (here front (λ head there at. earlier head there (let u = under in omega arith)) w all.0.is_inner, here-before ws all.1)
 
   more : length (first ++ line ∷ []) ≡ edge + 1
   more = length-append first (line ∷ [])

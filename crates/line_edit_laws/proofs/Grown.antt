@@ -8,21 +8,14 @@ use Rattle.std.proofs.lemmas.List.Elements as elements
 use Rattle.arc_base.proofs.Items.{Contains-head, Contains-tail, Contains-cases, from_filter, from_map}
 use Rattle.ios_config.specs.declared.commands.FileCommand.{FileCommand}
 use Rattle.ios_config.specs.Groups.{Part, is_same, part_of, distinct, members}
-use Rattle.ios_config.proofs.JoinedParts.{distinct-next, other-way, any-distinct}
-use Rattle.ios_config.proofs.PartLists.{others, neither}
+use Rattle.ios_config.proofs.JoinedParts.{others-none, distinct-next, other-way, any-distinct}
+use Rattle.ios_config.proofs.PartLists.{others}
 use Rattle.line_edit_laws.specs.Grown.{IsGrown, AreFreshParts, HasGrownGroups}
 
 -- the same part more than once in a row counts once
 repeats : (xs : List Part) (y : Part) (rs zs : List Part) → AllByRecursion (λ (r : Part). r ≡ y) rs → distinct (xs ++ (y ∷ (rs ++ zs))) ≡ distinct (xs ++ y ∷ zs)
 repeats xs y [] zs all = refl
 repeats xs y (r ∷ rs) zs all = ap (λ (z : Part). distinct (xs ++ (y ∷ z ∷ (rs ++ zs)))) all.0 ∙ distinct-next y xs (rs ++ zs) ∙ repeats xs y rs zs all.1
-
--- a part that is none of others is left aside from none
-keeps-others : (y : Part) (ps : List Part) → list_any (is_same y) ps ≡ false → others y ps ≡ ps
-keeps-others y [] none = refl
-keeps-others y (p ∷ ps) none =
-    let both = neither (is_same y p) (list_any (is_same y) ps) none in
-    cond-true (not (is_same y p)) (p ∷ others y ps) (others y ps) (ap not both.0) ∙ ap (λ r. p ∷ r) (keeps-others y ps both.1)
 
 any-none : (y : Part) (ps : List Part) → ((p : Part) → Contains ps p → is_same y p ≡ false) → list_any (is_same y) ps ≡ false
 any-none y [] each = refl
@@ -43,7 +36,7 @@ front-fresh [] zs each = refl
 front-fresh (t ∷ ts) zs each =
     let rest = front-fresh ts zs (λ u p there in_zs. each u p (Contains-tail t u ts there) in_zs) in
     let none : list_any (is_same t) zs ≡ false = any-none t zs (λ p in_zs. each t p (Contains-head t ts) in_zs) in
-    ap (λ r. t ∷ others t r) rest ∙ ap (λ r. t ∷ r) (others-append t (distinct ts) (distinct zs)) ∙ ap (λ r. t ∷ (others t (distinct ts) ++ r)) (keeps-others t (distinct zs) (any-distinct t zs none))
+    ap (λ r. t ∷ others t r) rest ∙ ap (λ r. t ∷ r) (others-append t (distinct ts) (distinct zs)) ∙ ap (λ r. t ∷ (others t (distinct ts) ++ r)) (others-none t (distinct zs) (any-distinct t zs none))
 
 fresh-among : (xs ts zs : List Part) → ((t p : Part) → Contains ts t → Contains (xs ++ zs) p → is_same t p ≡ false) → StandAmong ts (distinct (xs ++ zs)) (distinct (xs ++ (ts ++ zs)))
 fresh-among [] ts zs each = record { before = []; after = distinct zs; was = refl; is = front-fresh ts zs each }
@@ -57,10 +50,10 @@ fresh-among (x ∷ xs) ts zs each =
       is =
           ap (λ r. x ∷ others x r) rest.is ∙ ap (λ r. x ∷ r) (others-append x rest.before (distinct ts ++ rest.after) ∙ ap (λ r. others x rest.before ++ r)
           (others-append x (distinct ts) rest.after)) ∙
-          ap (λ r. x ∷ (others x rest.before ++ (r ++ others x rest.after))) (keeps-others x (distinct ts) (any-distinct x ts none));
+          ap (λ r. x ∷ (others x rest.before ++ (r ++ others x rest.after))) (others-none x (distinct ts) (any-distinct x ts none));
     }
 
-from-distinct : (ps : List Part) (p : Part) → Contains (distinct ps) p → Contains ps p
+pub from-distinct : (ps : List Part) (p : Part) → Contains (distinct ps) p → Contains ps p
 from-distinct [] p there = there
 from-distinct (q ∷ ps) p there = ⊎_elim
     (λ (here : q ≡ p). subst (λ (r : Part). Contains (q ∷ ps) r) here (Contains-head q ps))

@@ -2,7 +2,7 @@
 use Rattle.std.proofs.Common.{◌≡◌, ℕ, ◌+◌, ◌<◌, ◌≤◌, ◌==◌, ◌||◌, ◌⊎◌, inl, inr, not, Bool, true, false, Some, None}
 use Rattle.std.proofs.Common.{List, [], ◌∷◌, ◌++◌, length, length-append, take, get_or, refl, sym, ap, subst, ◌∙◌, arith, append_assoc, Contains, MatchBool}
 use Rattle.std.specs.Prelude.{slice_get, option_map, Ok, Err, Result}
-use Rattle.std.proofs.lemmas.Bool.{eq-eqb, ne_eqb}
+use Rattle.std.proofs.lemmas.Bool.{eq-eqb, ne_eqb, not-true}
 use Rattle.std.proofs.lemmas.Option.{same_Some, slice_get-map}
 use Rattle.std.proofs.Math.Seq.{take-append_seam, drop-append_seam}
 use Rattle.std.proofs.lemmas.List.Sums.{fold-append}
@@ -133,7 +133,7 @@ row-of lines cs c are among =
     let row : c.line ≡ place + 1 = let line = r.line in omega arith in
     let same : spot.place ≡ place = let other = spot.line in omega arith in
     let low : place < length lines = subst (λ (n : ℕ). n < length lines) same spot.told.within in
-    let inert : l.1.inert ≡ false = not-inert l.1.inert says in
+    let inert : l.1.inert ≡ false = not-true l.1.inert says in
     record {
       place = place;
       mark = l.1;
@@ -147,10 +147,6 @@ row-of lines cs c are among =
       row = subst (λ (n : ℕ). IsMarkRead marks (n, l.1) c) (sym r.line) r;
     }
   where
-    not-inert : (b : Bool) → not b ≡ true → b ≡ false
-    not-inert true is = absurd cc
-    not-inert false is = refl
-
     facts : (place : ℕ) (m : Mark) → slice_get (marks_in lines) place ≡ Some m → place < length lines → m.inert ≡ false →
         IsPlaceOf lines place m × (is_inert (kind_at lines place) ≡ false) × (m.words ≡ words (get_or lines place []))
     facts place m at low inert =
@@ -178,7 +174,7 @@ reads-once extended ws rules a b one two =
     one.gives ∙ (λ i. give (rule i).meaning (values i)) ∙ sym two.gives
 
 -- a row opens one kind of block
-opens-once : (marks : List Mark) (number : ℕ) (a b : BlockKind) → MarkOpens marks number a → MarkOpens marks number b → a ≡ b
+pub opens-once : (marks : List Mark) (number : ℕ) (a b : BlockKind) → MarkOpens marks number a → MarkOpens marks number b → a ≡ b
 opens-once marks number a b one two =
     let (place, at, there) = numbered-at 1 marks number one.head one.at_number in
     let (spot, on, here) = numbered-at 1 marks number two.head two.at_number in

@@ -90,18 +90,11 @@ low-more n m (d ∷ front) less low = (((let up = low.0.0 in omega arith), (let 
 zip-moved : (place : ℕ) (rename after : Part → Part) (vs cs : List FileCommand) →
     ((v : FileCommand) → Contains vs v → after (part_of v) ≡ part_moved place (rename (part_of v))) → AllZip (IsAlike rename) vs cs → AllZip (IsAlike after) vs (map (command_moved place) cs)
 zip-moved place rename after [] [] each all = tt
-zip-moved place rename after [] (c ∷ cs) each all = absurd all
-zip-moved place rename after (v ∷ vs) [] each all = absurd all
 zip-moved place rename after (v ∷ vs) (c ∷ cs) each all = (
-  (all.0.0, part-moved place c ∙ ap (part_moved place) all.0.1 ∙ sym (each v (Contains-first v vs))),
-  zip-moved place rename after vs cs (λ x there. each x (Contains-later v x vs there)) all.1,
+  (all.0.0, part-moved place c ∙ ap (part_moved place) all.0.1 ∙ sym (each v (items.Contains-head v vs))),
+  zip-moved place rename after vs cs (λ x there. each x (items.Contains-tail v x vs there)) all.1,
 )
-  where
-    Contains-first : (x : FileCommand) (xs : List FileCommand) → Contains (x ∷ xs) x
-    Contains-first x xs = items.Contains-head x xs
-
-    Contains-later : (x y : FileCommand) (xs : List FileCommand) → Contains xs y → Contains (x ∷ xs) y
-    Contains-later x y xs there = items.Contains-tail x y xs there
+zip-moved place rename after vs cs each all = absurd all
 
 -- a new head's number is that of no moved one
 never-new : (place : ℕ) (p : Part) → is_same (Block (place + 1)) (part_moved place p) ≡ false
@@ -109,8 +102,7 @@ never-new place (Block k) = ne_eqb (place + 1) (moved place k) (λ same. ⊎_eli
     (λ high. let up = moved-high place k high in omega arith)
     (λ low. let down = moved-low place k low in omega arith)
     (cases_lt place k))
-never-new place (Lines name) = refl
-never-new place (PrefixLines name) = refl
+never-new place other = refl
 
 low-kept : (place k : ℕ) → k ≤ place → part_moved place (Block k) ≡ Block k
 low-kept place k low = ap Block (moved-low place k low)

@@ -1,9 +1,10 @@
 -- Lists that grow by a piece for each item of another.
-use Rattle.std.proofs.Common.{◌≡◌, ℕ, ◌+◌, ◌<◌, ◌≤◌, List, [], ◌∷◌, ◌++◌, length, length-take-le, get_or, take, map, refl, sym, ◌∙◌, ap, subst, arith, append_assoc, Result, OnOk}
+use Rattle.std.proofs.Common.{◌≡◌, ℕ, ◌+◌, ◌<◌, ◌≤◌, List, [], ◌∷◌, ◌++◌, length, length-take-le, get_or, take, map, sym, ◌∙◌, ap, subst, arith, append_assoc, Result, OnOk}
 use Rattle.std.specs.List.{filter_map, flat_map, cons_option, enumerate_from, zip}
 use Rattle.std.specs.Prelude.{Option}
 use Rattle.std.proofs.lemmas.List.{append-nil, take_more, take_all, map-append}
 use Rattle.std.proofs.lemmas.List.Concat.{flat_map-append}
+use Rattle.std.proofs.lemmas.Simd.{map-map}
 use Rattle.arc_base.proofs.Grouped.{picked_more}
 use Rattle.edit_list.proofs.PriceSteps.{pair_at, pairs_length}
 
@@ -54,15 +55,11 @@ counted_grown f xs i x old now next y within is one was put =
     grown old (map f (enumerate_from 1 (take i xs))) (map f (enumerate_from 1 (take (i + 1) xs))) (y ∷ []) now next was put
     (ap (map f) (counted_more xs i x within is) ∙ map-append f (enumerate_from 1 (take i xs)) ((i + 1, x) ∷ []) ∙ ap (λ z. map f (enumerate_from 1 (take i xs)) ++ z ∷ []) (sym one))
 
-twice_mapped : {X Y Z : Type 0} (g : Y → Z) (f : X → Y) (xs : List X) → map (λ x. g (f x)) xs ≡ map g (map f xs)
-twice_mapped g f [] = refl
-twice_mapped g f (x ∷ xs) = ap (λ l. g (f x) ∷ l) (twice_mapped g f xs)
-
 -- all items are counted, and each is mapped twice
 pub all_mapped_twice : {X Y Z : Type 0} (g : Y → Z) (f : ℕ × X → Y) (xs : List X) (i : ℕ) (old now : List Z) → length xs ≤ i →
     now ≡ old ++ map (λ e. g (f e)) (enumerate_from 1 (take i xs)) → now ≡ old ++ map g (map f (enumerate_from 1 xs))
 all_mapped_twice g f xs i old now past was =
-    was ∙ ap (λ l. old ++ l) (ap (λ l. map (λ e. g (f e)) (enumerate_from 1 l)) (take_all i xs past) ∙ twice_mapped g f (enumerate_from 1 xs))
+    was ∙ ap (λ l. old ++ l) (ap (λ l. map (λ e. g (f e)) (enumerate_from 1 l)) (take_all i xs past) ∙ sym (map-map g f (enumerate_from 1 xs)))
 
 -- a piece more for each item counted from 1
 pub counted_pieces : {X Y : Type 0} (f : ℕ × X → List Y) (xs : List X) (i : ℕ) (x : X) (now next piece : List Y) → i < length xs → x ≡ get_or xs i x → piece ≡ f (i + 1, x) →

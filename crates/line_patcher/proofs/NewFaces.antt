@@ -1,5 +1,5 @@
 -- The interfaces of new lists are interfaces of the network.
-use Rattle.std.proofs.Common.{◌≡◌, ℕ, ◌<◌, ◌==◌, Bool, true, false, List, [], ◌∷◌, length, get_or, refl, subst, ⊎_elim, Contains, if◌then◌else◌}
+use Rattle.std.proofs.Common.{◌≡◌, ℕ, ◌<◌, Bool, true, false, List, [], ◌∷◌, length, get_or, refl, subst, ⊎_elim, Contains, if◌then◌else◌}
 use Rattle.std.specs.Prelude.{slice_get, Some, None, Option, All, option_map}
 use Rattle.std.specs.List.{filter_map, zip}
 use Rattle.std.proofs.lemmas.List.Elements.{Contains-append_cases, Contains-get_or}
@@ -14,6 +14,7 @@ use Rattle.edit_list.specs.declared.list_kinds.NewList.TheVariants.{Route, Packe
 use Rattle.edit_list.specs.Changes.{new_prefixes, new_classes}
 use Rattle.edit_list.specs.NewLists.{new_route_list, new_packet_list, new_lists, new_lists_of, new_names_of, named_lists}
 use Rattle.arc_base.specs.Numbered.{placed, if_number, is_empty}
+use Rattle.edit_list.proofs.Apart.{number_told}
 use Rattle.edit_list.proofs.NewListFacts.{picked_from, placed_is}
 use Rattle.line_patcher.specs.Working.{face_of}
 
@@ -47,11 +48,7 @@ all-faces net chosen y there = ⊎_elim
 router-faces : (net : Network) (chosen : List Edit) (router : ℕ) (list : NewList) → Contains (new_lists_of net chosen router) list → IsOfFace net list
 router-faces net chosen router list there =
     let r = picked_from (if_number router) (new_lists net chosen) list there in
-    by r.0 (r.0.0 == router) (all-faces net chosen r.0 r.1) r.2
-  where
-    by : (x : ℕ × NewList) (b : Bool) → IsOfFace net x.1 → (if b then Some x.1 else None) ≡ Some list → IsOfFace net list
-    by x true of e = subst (IsOfFace net) (same_Some x.1 list e) of
-    by x false of e = absurd (none-some list e)
+    subst (IsOfFace net) (number_told router r.0 list r.2).1 (all-faces net chosen r.0 r.1)
 
 zip-first : {X Y : Type 0} (xs : List X) (ys : List Y) (p : X × Y) → Contains (zip xs ys) p → Contains xs p.0
 zip-first [] ys p there = absurd (Contains-none p there)

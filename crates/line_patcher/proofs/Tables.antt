@@ -5,8 +5,7 @@ use Rattle.std.specs.List.{cons_option, filter_map, flat_map, zip, range_with_le
 use Rattle.std.proofs.lemmas.List.{append-nil, get_or_read, length-append, take_all, take_more}
 use Rattle.std.proofs.lemmas.List.Concat.{flat_map-append}
 use Rattle.std.proofs.lemmas.List.Elements.{filter_map-append}
-use Rattle.std.proofs.lemmas.Option.{get_or_from_slice_get, slice_get_read}
-use Rattle.std.proofs.lemmas.List.FromFn.{length-map-range_with_len}
+use Rattle.std.proofs.lemmas.Option.{slice_get_read}
 use Rattle.std.specs.Option.{option_map_or}
 use Rattle.net_model.specs.declared.rows.Network.{Network}
 use Rattle.net_build.specs.declared.built.ListPlace.{ListPlace}
@@ -19,7 +18,7 @@ use Rattle.edit_list.proofs.Counts.{few_picked}
 use Rattle.edit_list.specs.declared.list_kinds.NewList.{NewList}
 use Rattle.edit_list.specs.NewLists.{new_lists, new_lists_of, new_names_of, named_lists}
 use Rattle.edit_space.specs.Working.{AreNewNames}
-use Rattle.arc_base.proofs.Grouped.{grouped_more, things_told, told_at}
+use Rattle.arc_base.proofs.Grouped.{grouped_more, things_told, told_or, told_within}
 use Rattle.edit_list.proofs.Placing.{placed_at, placed_length}
 use Rattle.edit_list.proofs.PriceSteps.{pairs_length}
 use Rattle.line_patcher.specs.declared.additions.NewNumber.{NewNumber}
@@ -141,20 +140,16 @@ pub grouped_are : {X : Type 0} (count number : ℕ) (things all : List (ℕ × X
     IsTableOf count (λ k. of_number k things) groups → IsTableOf number (λ k. of_number k all) groups
 grouped_are count number things all groups same are told = told ∙ (λ i. map (λ (k : ℕ). of_number k (are i)) (range_with_len 0 (same i)))
 
--- a table has an item for each number below its count
-pub told_length : {X : Type 0} (count : ℕ) (f : ℕ → X) (xs : List X) → IsTableOf count f xs → length xs ≡ count
-told_length count f xs told = ap length told ∙ length-map-range_with_len f 0 count
-
 -- the new lists of a router and their names, as the tables have them
 module _ (net : Network) (chosen : List Edit) (router : ℕ) (names : List (List (List ℕ))) (own : List (List ℕ)) (groups : List (List NewList)) (lists : List NewList)
     (are : AreNewNames net (new_lists net chosen) names)
     (low : router < length net.routers) (is : own ≡ get_or names router own) (told : IsTableOf (length net.routers) (new_lists_of net chosen) groups)
     (there : lists ≡ unwrap_or (slice_get groups router) []) where
   own_is : own ≡ get_or names router []
-  own_is = get_or_read names router own (omega (arith, low, told_length (length net.routers) (new_names_of net chosen) names are.told)) is []
+  own_is = get_or_read names router own (told_within (new_names_of net chosen) (length net.routers) router names are.told low) is []
 
   names_are : own ≡ new_names_of net chosen router
-  names_are = own_is ∙ get_or_from_slice_get names router (new_names_of net chosen router) [] (told_at (new_names_of net chosen) (length net.routers) router names are.told low)
+  names_are = own_is ∙ told_or (new_names_of net chosen) (length net.routers) router names [] are.told low
 
   lists_are : lists ≡ new_lists_of net chosen router
   lists_are = things_told groups (new_lists_of net chosen) (length net.routers) router lists told low there

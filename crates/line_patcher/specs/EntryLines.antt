@@ -96,14 +96,6 @@ edited_by router change chosen list =
     if is_empty (of_number list.0 (filter_map change chosen)) then None
     else Some (router list.1, list.0)
 
--- the packet list at this place, with its router, if edits add entries to it
-abbrev pub edited_packet_list : List Edit → ℕ × PacketList → Option (ℕ × ℕ)
-edited_packet_list = edited_by (λ list. list.router.0) packet_list_change
-
--- the route list at this place, with its router, if edits add entries to it
-abbrev pub edited_route_list : List Edit → ℕ × RouteList → Option (ℕ × ℕ)
-edited_route_list = edited_by (λ list. list.router.0) route_list_change
-
 -- the places of those of these lists that are of this router and to which edits add entries
 abbrev pub edited_lists : {L X : Type 0} → List (ℕ × L) → (L → ℕ) → (Edit → Option (ℕ × X)) →
     List Edit → ℕ → List ℕ

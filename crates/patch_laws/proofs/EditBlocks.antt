@@ -1,5 +1,5 @@
 -- The process and the interfaces of a file grow by what edits put at their ends.
-use Rattle.std.proofs.Common.{◌≡◌, ◌≢◌, ℕ, ◌+◌, ◌≤◌, ◌⊎◌, inl, inr, Bool, true, false, Some, None, List, [], ◌∷◌, ◌++◌, map, refl, sym, ap, subst, ◌∙◌, arith, ⊎_elim, Contains, append-nil, not}
+use Rattle.std.proofs.Common.{◌≡◌, ◌≢◌, ℕ, ◌+◌, ◌≤◌, ◌⊎◌, inl, inr, Bool, true, false, Some, None, List, [], ◌∷◌, ◌++◌, map, refl, sym, ap, subst, ◌∙◌, arith, ⊎_elim, Contains, append-nil}
 use Rattle.std.specs.List.{flat_map}
 use Rattle.std.proofs.lemmas.Bool.{cases_Bool}
 use Rattle.std.proofs.lemmas.Option.{none-some}
@@ -19,7 +19,7 @@ use Rattle.ios_config.specs.Texts.{is_entry, process_by, process_of}
 use Rattle.ios_config.proofs.HeadsFirst.{part-block}
 use Rattle.ios_config.proofs.JoinedParts.{is-self}
 use Rattle.ios_config.proofs.LinesBefore.{Rising}
-use Rattle.ios_config.proofs.PartLists.{is_same-Decides, others}
+use Rattle.ios_config.proofs.PartLists.{is_same-Decides}
 use Rattle.ios_config.proofs.ProcessBlocks.{rising-filter}
 use Rattle.net_build.specs.declared.built.Places.{Places}
 use Rattle.edit_list.specs.declared.edit_kinds.Edit.{Edit}
@@ -29,13 +29,14 @@ use Rattle.line_patcher.specs.Additions.{all_at, numbers_at, process_commands}
 use Rattle.line_patcher.specs.NewListLines.{group_commands}
 use Rattle.settings_edit_laws.specs.SettingsAfter.{process_with}
 use Rattle.line_edit_laws.specs.Sites.{Written, in_block, says_other}
+use Rattle.line_edit_laws.proofs.Grown.{from-distinct}
 use Rattle.patch_laws.specs.EditFiles.{IsEditedFile}
 use Rattle.patch_laws.specs.EditSites.{entries_at, with_number}
 use Rattle.patch_laws.specs.EndLines.{unplaced}
 use Rattle.patch_laws.specs.Written.{written_of}
 use Rattle.patch_laws.specs.ListsGrow.{list_begun}
 use Rattle.patch_laws.proofs.EditGrow.{own, grow_at, after_at, new_at, grow-is}
-use Rattle.patch_laws.proofs.EditLists.{list-group, none-at, of-append}
+use Rattle.patch_laws.proofs.EditLists.{list-group, none-at, none-in, of-append}
 use Rattle.patch_laws.proofs.EditParts.{entry-at, EndAt, OfProcess, OfFace, FaceEnd, end-at, face-end, block-own, number-at}
 use Rattle.patch_laws.proofs.EditBusy.{AtFace, face-line, last-line, process-here}
 use Rattle.patch_laws.proofs.EndLines.{processes-grow}
@@ -106,13 +107,6 @@ heads-made : (command : Command) (head : FileCommand) (rest : List FileCommand) 
 heads-made (commands.RouterOspf number) head rest is = (_, Contains-head _ [], refl)
 heads-made (commands.RouterBgp number) head rest is = (_, Contains-head _ [], refl)
 heads-made _ head rest is = absurd cc
-
-from-distinct : (ps : List Part) (p : Part) → Contains (distinct ps) p → Contains ps p
-from-distinct [] p there = there
-from-distinct (q ∷ ps) p there = ⊎_elim
-    (λ (here : q ≡ p). subst (λ (r : Part). Contains (q ∷ ps) r) here (Contains-head q ps))
-    (λ later. Contains-tail q p ps (from-distinct ps p (from_filter (λ (r : Part). not (is_same q r)) (distinct ps) p later).0))
-    (Contains-cases q p (others q (distinct ps)) there)
 
 pub known-group : (cs : List FileCommand) (q : Part) → Contains (distinct (map part_of cs)) q → GroupOf cs q
 known-group cs q known =
@@ -238,7 +232,7 @@ module _ (net : Network) (places : List Places) (chosen : List Edit) (router : �
           absurd cc
 
       other-ends : (c : FileCommand) → Contains (members cs q) c → c.line ≢ h.last.line → ends_at c ≡ []
-      other-ends c there other = by (ends_at c) refl
+      other-ends c there other = none-in (ends_at c) (λ w in_ends. at-end w (end-at net places chosen router text lines cs f c w (members-of cs q c there).0 in_ends))
         where
           at-end : (w : Written) → EndAt net places chosen router cs f.process c w → ⊥
           at-end w (OfProcess p last line) = other (ap (λ (x : FileCommand). x.line) last ∙ latest-same p)
@@ -246,10 +240,6 @@ module _ (net : Network) (places : List Places) (chosen : List Edit) (router : �
               latest-same : (p : HasProcess cs f.process) → p.last.line ≡ h.last.line
               latest-same p = sym p.last_line ∙ h.last_line
           at-end w (OfFace e) = not-face c w there e
-
-          by : (ws : List Written) → ends_at c ≡ ws → ws ≡ []
-          by [] e = refl
-          by (w ∷ ws) e = absurd (at-end w (end-at net places chosen router text lines cs f c w (members-of cs q c there).0 (subst (λ (l : List Written). Contains l w) (sym e) (Contains-head w ws))))
 
       last-there : Contains (members cs q) h.last
       last-there = Contains-filter (λ (d : FileCommand). is_same q (part_of d)) cs h.last h.block.last_among

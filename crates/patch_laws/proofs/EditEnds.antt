@@ -29,8 +29,8 @@ use Rattle.patch_laws.specs.Written.{written_of}
 use Rattle.patch_laws.proofs.EditBusy.{AtFace, after-item, last-line, process-here}
 use Rattle.patch_laws.proofs.EditLists.{from-number}
 use Rattle.patch_laws.proofs.EditRows.{one-command}
-use Rattle.patch_laws.proofs.EditEntries.{all-of}
-use Rattle.patch_laws.proofs.EditThere.{are-named}
+use Rattle.patch_laws.proofs.EditEntries.{all-in}
+use Rattle.patch_laws.proofs.EditParts.{named-names}
 use Rattle.patch_laws.proofs.EndLines.{group-lines-fit, process-lines-read}
 
 -- a line of a block, after its last command
@@ -67,14 +67,14 @@ module _ (net : Network) (places : List Places) (chosen : List Edit) (router : �
 
   process-inner : (c : FileCommand) → Contains cs c → (command : Command) → Contains (process_commands net chosen router) command → own.process_last ≡ c.line → IsInnerOf cs c (written_of command)
   process-inner c among command there line =
-      let read = all-of (IsProcessLine net.protocol c.block) (process_commands net chosen router)
-      (process-lines-read net chosen router c.block file.writable file.fits (are-named net places chosen router text lines cs file)) command there in
+      let read = all-in (IsProcessLine net.protocol c.block) (process_commands net chosen router) command
+      (process-lines-read net chosen router c.block file.writable file.fits (named-names net places chosen router text lines cs file)) there in
       let same : here.last ≡ c = one-command (text_lines text) cs here.last c file.stand here.block.last_among among (sym (last-line net places chosen router text lines cs file) ∙ line) in
       at-end cs c here.head here.last here.within (written_of command) here.block same (subst (λ (k : BlockKind). IsLineOf (line_of command) k c.block command) within-is read.line)
 
   group-inner : (c : FileCommand) → Contains cs c → (command : Command) → AtFace net places chosen router text lines cs file (c.line, command) → IsInnerOf cs c (written_of command)
   group-inner c among command a =
-      let named : IsTrue (is_name a.name) = are-named net places chosen router text lines cs file (Packet a.face, a.name) a.named in
+      let named : IsTrue (is_name a.name) = named-names net places chosen router text lines cs file (Packet a.face, a.name) a.named in
       let same : a.block.last ≡ c = one-command (text_lines text) cs a.block.last c file.stand a.block.block.last_among among (sym a.line) in
       subst (λ (k : Command). IsInnerOf cs c (written_of k)) (sym a.says)
       (at-end cs c a.block.head a.block.last kinds.Interface (written_of (commands.Group a.name true)) a.block.block same (group-lines-fit a.name c.block named).0.0)

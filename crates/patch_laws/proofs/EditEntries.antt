@@ -3,10 +3,10 @@ use Rattle.std.proofs.Common.{◌≡◌, ◌≢◌, ℕ, ◌+◌, ◌*◌, ◌�
 use Rattle.std.proofs.Common.{arith, ⊎_elim, Contains, codes, IsTrue}
 use Rattle.std.specs.List.{AllByRecursion, enumerate_from, flat_map}
 use Rattle.std.proofs.lemmas.Option.{slice_get_within}
-use Rattle.std.proofs.lemmas.List.Elements.{Contains-append_cases}
+use Rattle.std.proofs.lemmas.List.Elements.{All-contains, All-from_recursion, Contains-append_cases}
 use Rattle.arc_base.specs.declared.prefix.Prefix.{Prefix}
 use Rattle.arc_base.specs.PrefixText.{number_of}
-use Rattle.arc_base.proofs.Items.{Contains-cases, Contains-none, Contains-head, Contains-tail, from_map, from_piece}
+use Rattle.arc_base.proofs.Items.{Contains-head, Contains-tail, from_map, from_piece}
 use Rattle.net_model.proofs.Readings.{item_at_place}
 use Rattle.net_model.specs.declared.lists.PacketEntry.{PacketEntry}
 use Rattle.net_model.specs.declared.lists.PacketList.{PacketList}
@@ -62,9 +62,8 @@ pub all-from : {X : Type 0} (P : X → Type 0) (xs : List X) → ((x : X) → Co
 all-from P [] each = tt
 all-from P (x ∷ xs) each = (each x (Contains-head x xs), all-from P xs (λ y there. each y (Contains-tail x y xs there)))
 
-pub all-of : {X : Type 0} (P : X → Type 0) (xs : List X) → AllByRecursion P xs → (x : X) → Contains xs x → P x
-all-of P [] all x there = absurd (Contains-none x there)
-all-of P (y ∷ xs) all x there = ⊎_elim (λ same. subst P same all.0) (λ more. all-of P xs all.1 x more) (Contains-cases y x xs there)
+pub all-in : {X : Type 0} (P : X → Type 0) (xs : List X) (x : X) → AllByRecursion P xs → Contains xs x → P x
+all-in P xs x all there = All-contains P xs x (All-from_recursion P xs all) there
 
 -- the number of an entry
 pub order-fits : (place : ListPlace) (step at high : ℕ) → 1 ≤ step * at → step * at ≤ high → IsOrder high (order_at place step at)

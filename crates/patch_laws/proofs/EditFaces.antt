@@ -56,7 +56,7 @@ use Rattle.patch_laws.specs.FaceBlocks.{HasFaceBlock}
 use Rattle.patch_laws.specs.ListsGrow.{list_begun}
 use Rattle.patch_laws.proofs.EditBlocks.{plainly, plainly-written, ends-grown, known-group, members-of, grown-first, bare-plain}
 use Rattle.patch_laws.proofs.EditGrow.{own, grow_at, after_at}
-use Rattle.patch_laws.proofs.EditLists.{none-at, of-append}
+use Rattle.patch_laws.proofs.EditLists.{none-at, none-in, of-append}
 use Rattle.patch_laws.proofs.EditOnce.{Apart}
 use Rattle.patch_laws.proofs.EditParts.{EndAt, OfProcess, OfFace, end-at, block-own}
 use Rattle.patch_laws.proofs.EditBusy.{last-line, process-here}
@@ -230,13 +230,10 @@ module _ (net : Network) (places : List Places) (chosen : List Edit) (router : �
         let block : c.block ≡ p.head.line = ap (λ (x : FileCommand). x.block) last ∙ p.block.last_block in
         let same : p.head ≡ b.head = one-line 1 cs p.head b.head up p.block.among b.block.among (sym block ∙ mine c there) in
         let opens : kinds.Interface ≡ p.within = ap opened_by (sym b.name) ∙ ap (λ (x : FileCommand). opened_by x.command) (sym same) ∙ p.block.opens in
-        ⊎_elim (λ ospf. no-ospf (opens ∙ ospf.0)) (λ bgp. no-bgp (opens ∙ bgp.0)) p.kind
-      where
-        no-ospf : kinds.Interface ≡ kinds.Ospf → ⊥
-        no-ospf e = absurd cc
-
-        no-bgp : kinds.Interface ≡ kinds.Bgp → ⊥
-        no-bgp e = absurd cc
+        ⊎_elim
+        (λ ospf. (let clash : kinds.Interface ≡ kinds.Ospf = opens ∙ ospf.0 in absurd cc))
+        (λ bgp. (let clash : kinds.Interface ≡ kinds.Bgp = opens ∙ bgp.0 in absurd cc))
+        p.kind
 
     -- blocks of one head end with one command
     one-last : (other : FaceText) (e : HasFaceBlock cs other) → e.head ≡ b.head → e.last ≡ b.last
@@ -247,7 +244,7 @@ module _ (net : Network) (places : List Places) (chosen : List Edit) (router : �
         one-line 1 cs e.last b.last up e.block.last_among b.block.last_among (omega (arith, one, two))
 
     other-ends : (c : FileCommand) → Contains (members cs q) c → c.line ≢ b.last.line → ends_at c ≡ []
-    other-ends c there other = by (ends_at c) refl
+    other-ends c there other = none-in (ends_at c) (λ w in_ends. at-end w (end-at net places chosen router text lines cs f c w (members-of cs q c there).0 in_ends))
       where
         at-end : (w : Written) → EndAt net places chosen router cs f.process c w → ⊥
         at-end w (OfProcess p last line) = not-process c there p last
@@ -255,10 +252,6 @@ module _ (net : Network) (places : List Places) (chosen : List Edit) (router : �
             let block : c.block ≡ e.block.head.line = ap (λ (x : FileCommand). x.block) e.last ∙ e.block.block.last_block in
             let same : e.block.head ≡ b.head = one-line 1 cs e.block.head b.head up e.block.block.among b.block.among (sym block ∙ mine c there) in
             other (ap (λ (x : FileCommand). x.line) (e.last ∙ one-last e.has.face e.block same))
-
-        by : (ws : List Written) → ends_at c ≡ ws → ws ≡ []
-        by [] e = refl
-        by (w ∷ ws) e = absurd (at-end w (end-at net places chosen router text lines cs f c w (members-of cs q c there).0 (subst (λ (l : List Written). Contains l w) (sym e) (Contains-head w ws))))
 
     abbrev binding : List ℕ → FileCommand
     binding n = unplaced (commands.Group n true)

@@ -1,9 +1,10 @@
 -- All that edits put into a file may stand in lines, and rows with new numbers are lines.
 use Rattle.std.proofs.Common.{◌≡◌, ℕ, suc, ◌+◌, ◌^◌, ◌<◌, ◌==◌, ◌⊎◌, inl, inr, true, false, Option, Some, List, [], ◌∷◌, ◌++◌, length, refl, sym, ap, subst, ◌∙◌, arith, ⊎_elim, Contains, decimal}
-use Rattle.std.specs.Prelude.{slice_get, slice_range, nat_lt}
+use Rattle.std.specs.Prelude.{slice_get, slice_range}
 use Rattle.std.specs.Option.{option_map_or}
-use Rattle.std.specs.List.{AllByRecursion, enumerate_from, list_all}
-use Rattle.std.proofs.lemmas.Bool.{eqb-true, eqb-false, and_parts, ltb-true}
+use Rattle.std.specs.List.{AllByRecursion, enumerate_from}
+use Rattle.std.proofs.lemmas.Bool.{eqb-true, eqb-false}
+use Rattle.std.proofs.lemmas.Fmt.{decimal_nonempty}
 use Rattle.std.proofs.lemmas.Option.{same_Some}
 use Rattle.std.proofs.lemmas.List.{length-append}
 use Rattle.std.proofs.lemmas.List.Elements.{Contains-append_cases}
@@ -17,7 +18,6 @@ use Rattle.ios_lines.specs.Rewritten.{rewritten}
 use Rattle.ios_lines.specs.Texts.{part}
 use Rattle.ios_lines.proofs.EndedLines.{rows-make}
 use Rattle.ios_lines.proofs.Slices.{length-slice_range}
-use Rattle.ios_words.proofs.PlainWords.{decimal-plain}
 use Rattle.ios_words.specs.declared.commands.Command.{Command}
 use Rattle.ios_words.specs.declared.commands.Command.TheVariants as commands
 use Rattle.ios_words.specs.declared.commands.RouteText.{RouteText}
@@ -45,23 +45,20 @@ use Rattle.patch_laws.specs.EntrySites.{IsSequenced}
 use Rattle.patch_laws.specs.Fits.{CanBePatched, Fits, IsFit, IsLineEnd}
 use Rattle.patch_laws.specs.NewListSites.{IsNewName}
 use Rattle.patch_laws.proofs.EditBusy.{AtCommand, after-item, number-command}
-use Rattle.patch_laws.proofs.EditEntries.{all-from, all-of, new-lines-fit, table-entry}
+use Rattle.patch_laws.proofs.EditEntries.{all-from, all-in, new-lines-fit, table-entry}
 use Rattle.patch_laws.proofs.EditLists.{from-number}
 use Rattle.patch_laws.proofs.EditRenumber.{new-row, r}
 use Rattle.patch_laws.proofs.EditRows.{CommandRow}
-use Rattle.patch_laws.proofs.EditThere.{are-named}
+use Rattle.patch_laws.proofs.EditParts.{named-names}
 use Rattle.patch_laws.proofs.EndLines.{group-lines-fit, process-lines-read}
 use Rattle.patch_laws.proofs.PatchedLines.{hanging-ended}
 use Rattle.patch_laws.proofs.RowLines.{line-end, row-facts}
 use Rattle.line_patcher.specs.Working.{LiesWithin}
 use Rattle.line_patcher.proofs.RowsWithin.{row-within}
 
-some-decimal : (m : ℕ) → m < 2 ^ 64 → 0 < length (decimal m)
-some-decimal m small = ltb-true 0 (length (decimal m)) (and_parts (nat_lt 0 (length (decimal m))) (list_all (nat_lt 32) (decimal m)) (decimal-plain m small)).0
-
 some-rewritten : (text : List ℕ) (row : Line) (span : Span) (m : ℕ) → m < 2 ^ 64 → 0 < length (rewritten text row span (decimal m))
 some-rewritten text row span m small =
-    let some = some-decimal m small in
+    let some = decimal_nonempty m small in
     let front = slice_range text row.span.from span.from in
     let back = slice_range text span.to row.span.to in
     let one = length-append front (decimal m ++ back) in
@@ -100,9 +97,9 @@ module _ (sequences : (ws : List (List ℕ)) (list : List ℕ) (n : ℕ) (entry 
   news-fit item there =
       let (command, among, is) = from_map (λ (k : Command). (own.process, k)) (commands_of_new_lists net chosen router) item there in
       let (named, in_named, has) = from_piece (λ (n : NewList × List ℕ). new_list_commands chosen n.0 n.1) (named_lists net chosen router) command among in
-      let name = all-of (IsNewName chosen) (named_lists net chosen router) file.names named in_named in
+      let name = all-in (IsNewName chosen) (named_lists net chosen router) named file.names in_named in
       subst (λ (p : ℕ × Command). IsFit (line_of p.1)) is
-      (all-of (λ (k : Command). IsFit (line_of k)) (new_list_commands chosen named.0 named.1) (new-lines-fit chosen named.0 named.1 name) command has)
+      (all-in (λ (k : Command). IsFit (line_of k)) (new_list_commands chosen named.0 named.1) command (new-lines-fit chosen named.0 named.1 name) has)
 
   before-fit : (item : ℕ × Command) → Contains (commands_before net own chosen router) item → IsFit (line_of item.1)
   before-fit item there = ⊎_elim (news-fit item) (λ entry. (table-entry net places chosen router text lines cs file item entry).fit)
@@ -111,9 +108,9 @@ module _ (sequences : (ws : List (List ℕ)) (list : List ℕ) (n : ℕ) (entry 
   -- those that are added after others
   after-fit : (item : ℕ × Command) → Contains (commands_after net places own chosen router) item → IsFit (line_of item.1)
   after-fit item there =
-      let named = are-named net places chosen router text lines cs file in
+      let named = named-names net places chosen router text lines cs file in
       ⊎_elim
-      (λ process. (all-of (IsProcessLine net.protocol 0) (process_commands net chosen router) (process-lines-read net chosen router 0 file.writable file.fits named) item.1 process.1).fit)
+      (λ process. (all-in (IsProcessLine net.protocol 0) (process_commands net chosen router) item.1 (process-lines-read net chosen router 0 file.writable file.fits named) process.1).fit)
       (λ a. subst (λ (k : Command). IsFit (line_of k)) (sym a.says) (group-lines-fit a.name 0 (named (Packet a.face, a.name) a.named)).1)
       (after-item net places chosen router text lines cs file item there)
 

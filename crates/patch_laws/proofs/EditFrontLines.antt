@@ -2,6 +2,7 @@
 use Rattle.std.proofs.Common.{◌≡◌, ◌≢◌, ℕ, ◌+◌, ◌⊎◌, inl, inr, Bool, true, false, if◌then◌else◌, Option, Some, None, List, [], ◌∷◌, ◌++◌, map, refl, sym, ap, ◌∙◌, ⊎_elim, Contains, append-nil}
 use Rattle.std.specs.Prelude.{AllPairs}
 use Rattle.std.specs.List.{enumerate_from, flat_map}
+use Rattle.std.proofs.lemmas.Bool.{false≢true}
 use Rattle.std.proofs.lemmas.Option.{same_Some, none-some}
 use Rattle.arc_base.specs.declared.prefix.Prefix.{Prefix}
 use Rattle.arc_base.proofs.Items.{Contains-cases, Contains-none, Contains-head, Contains-tail, AllPairs-first, AllPairs-rest}
@@ -21,6 +22,7 @@ use Rattle.net_model.specs.declared.lists.PacketEntry.{PacketEntry}
 use Rattle.net_model.specs.declared.lists.PacketList.{PacketList}
 use Rattle.net_model.specs.declared.lists.RouteList.{RouteList}
 use Rattle.net_model.specs.declared.policies.Class.{Class}
+use Rattle.net_rules.specs.Lists.{is_packet_kind}
 use Rattle.net_build.specs.declared.built.ListPlace.{ListPlace}
 use Rattle.edit_list.specs.After.{opposite_packet_entry, opposite_route_entry}
 use Rattle.settings_edit_laws.specs.Additions.{route_line}
@@ -91,17 +93,21 @@ routes-written name es place row k (p ∷ prefixes) name_is es_are =
 clash-by : (u v : Command) (s : Stand) → stand_of u ≡ Some s → Contains (excluded v) s → Clash u v
 clash-by u v s stand there = any_of (λ (t : Stand). stand_of u ≡ Some t) (excluded v) s there stand
 
-abbrev begins : List ℕ → ListKind → ListForm → Option (List ℕ × ListKind × ListForm)
+abbrev pub begins : List ℕ → ListKind → ListForm → Option (List ℕ × ListKind × ListForm)
 begins name k f = Some (name, k, f)
 
 begun-parts : (name n : List ℕ) (k : ListKind) (f : ListForm) (i : ListKind) (h : ListForm) → begins n i h ≡ begins name k f → (n ≡ name) × (i ≡ k) × (h ≡ f)
 begun-parts name n k f i h e = let same = same_Some (n, i, h)
     (name, k, f) e in (ap (λ (t : List ℕ × ListKind × ListForm). t.0) same, ap (λ (t : List ℕ × ListKind × ListForm). t.1) same, ap (λ (t : List ℕ × ListKind × ListForm). t.2) same)
 
--- two commands that begin packet lists of one name clash, or are lines of one list
-begun-clash : (u v : Command) (name : List ℕ) (k j : ListKind) (f g : ListForm) → list_begun u ≡ Some (name, k, f) → list_begun v ≡ Some (name, j, g) → k ≢ kinds.Prefix →
-    j ≢ kinds.Prefix → (Clash u v × Clash v u) ⊎ ((b d : ℕ) → part_in b u ≡ part_in d v)
-begun-clash (commands.ListBlock e n) (commands.ListBlock o m) name k j f g one two no_k no_j =
+packet-kind : (b : Bool) (i j k : ListKind) → is_packet_kind i ≡ true → is_packet_kind j ≡ true → (if b then i else j) ≡ k → is_packet_kind k ≡ true
+packet-kind true i j k one two is = ap is_packet_kind (sym is) ∙ one
+packet-kind false i j k one two is = ap is_packet_kind (sym is) ∙ two
+
+-- two commands that begin lists of one name and kind clash, or are lines of one list
+begun-clash : (u v : Command) (name : List ℕ) (k j : ListKind) (f g : ListForm) → list_begun u ≡ Some (name, k, f) → list_begun v ≡ Some (name, j, g) →
+    is_packet_kind k ≡ is_packet_kind j → (Clash u v × Clash v u) ⊎ ((b d : ℕ) → part_in b u ≡ part_in d v)
+begun-clash (commands.ListBlock e n) (commands.ListBlock o m) name k j f g one two alike =
     let same : n ≡ m = (begun-parts name n k f _ _ one).0 ∙ sym (begun-parts name m j g _ _ two).0 in
     inl (
       clash-by (commands.ListBlock e n) (commands.ListBlock o m) (stands.ListBlock m) (ap (λ (x : List ℕ). Some (stands.ListBlock x)) same)
@@ -109,59 +115,45 @@ begun-clash (commands.ListBlock e n) (commands.ListBlock o m) name k j f g one t
       clash-by (commands.ListBlock o m) (commands.ListBlock e n) (stands.ListBlock n) (ap (λ (x : List ℕ). Some (stands.ListBlock x)) (sym same))
           (Contains-head (stands.ListBlock n) (stands.ListLines n ∷ [])),
     )
-begun-clash (commands.ListBlock e n) (commands.ListLine m entry) name k j f g one two no_k no_j =
+begun-clash (commands.ListBlock e n) (commands.ListLine m entry) name k j f g one two alike =
     let same : n ≡ m = (begun-parts name n k f _ _ one).0 ∙ sym (begun-parts name m j g _ _ two).0 in
     inl (
       clash-by (commands.ListBlock e n) (commands.ListLine m entry) (stands.ListBlock m) (ap (λ (x : List ℕ). Some (stands.ListBlock x)) same) (Contains-head (stands.ListBlock m) []),
       clash-by (commands.ListLine m entry) (commands.ListBlock e n) (stands.ListLines n) (ap (λ (x : List ℕ). Some (stands.ListLines x)) (sym same))
           (Contains-tail (stands.ListBlock n) (stands.ListLines n) (stands.ListLines n ∷ []) (Contains-head (stands.ListLines n) [])),
     )
-begun-clash (commands.ListLine n entry) (commands.ListBlock o m) name k j f g one two no_k no_j =
+begun-clash (commands.ListLine n entry) (commands.ListBlock o m) name k j f g one two alike =
     let same : n ≡ m = (begun-parts name n k f _ _ one).0 ∙ sym (begun-parts name m j g _ _ two).0 in
     inl (
       clash-by (commands.ListLine n entry) (commands.ListBlock o m) (stands.ListLines m) (ap (λ (x : List ℕ). Some (stands.ListLines x)) same)
           (Contains-tail (stands.ListBlock m) (stands.ListLines m) (stands.ListLines m ∷ []) (Contains-head (stands.ListLines m) [])),
       clash-by (commands.ListBlock o m) (commands.ListLine n entry) (stands.ListBlock n) (ap (λ (x : List ℕ). Some (stands.ListBlock x)) (sym same)) (Contains-head (stands.ListBlock n) []),
     )
-begun-clash (commands.ListLine n entry) (commands.ListLine m other) name k j f g one two no_k no_j =
+begun-clash (commands.ListLine n entry) (commands.ListLine m other) name k j f g one two alike =
     let same : n ≡ m = (begun-parts name n k f _ _ one).0 ∙ sym (begun-parts name m j g _ _ two).0 in
     inr (λ b d. ap groups.Lines same)
-begun-clash (commands.PrefixLine n order entry) v name k j f g one two no_k no_j = absurd (no_k (sym (begun-parts name n k f _ _ one).1))
-begun-clash u (commands.PrefixLine m order entry) name k j f g one two no_k no_j = absurd (no_j (sym (begun-parts name m j g _ _ two).1))
-begun-clash (commands.ListBlock e n) _ name k j f g one two no_k no_j = absurd (none-some (name, j, g) two)
-begun-clash (commands.ListLine n entry) _ name k j f g one two no_k no_j = absurd (none-some (name, j, g) two)
-begun-clash _ v name k j f g one two no_k no_j = absurd (none-some (name, k, f) one)
+begun-clash (commands.PrefixLine n order entry) (commands.PrefixLine m other text) name k j f g one two alike =
+    let same : n ≡ m = (begun-parts name n k f _ _ one).0 ∙ sym (begun-parts name m j g _ _ two).0 in
+    inr (λ b d. ap groups.PrefixLines same)
+begun-clash (commands.PrefixLine n order entry) (commands.ListBlock o m) name k j f g one two alike =
+    absurd (false≢true (ap is_packet_kind (begun-parts name n k f _ _ one).1 ∙ alike ∙ packet-kind o kinds.Extended kinds.Standard j refl refl (begun-parts name m j g _ _ two).1))
+begun-clash (commands.PrefixLine n order entry) (commands.ListLine m other) name k j f g one two alike =
+    absurd (false≢true (ap is_packet_kind (begun-parts name n k f _ _ one).1 ∙ alike ∙ packet-kind (option_map_or is_standard (number_of m) false) kinds.Standard kinds.Extended j refl refl
+    (begun-parts name m j g _ _ two).1))
+begun-clash (commands.ListBlock o n) (commands.PrefixLine m order entry) name k j f g one two alike =
+    absurd (false≢true (ap is_packet_kind (begun-parts name m j g _ _ two).1 ∙ sym alike ∙ packet-kind o kinds.Extended kinds.Standard k refl refl (begun-parts name n k f _ _ one).1))
+begun-clash (commands.ListLine n other) (commands.PrefixLine m order entry) name k j f g one two alike =
+    absurd (false≢true (ap is_packet_kind (begun-parts name m j g _ _ two).1 ∙ sym alike ∙ packet-kind (option_map_or is_standard (number_of n) false) kinds.Standard kinds.Extended k refl refl
+    (begun-parts name n k f _ _ one).1))
+begun-clash (commands.ListBlock e n) _ name k j f g one two alike = absurd (none-some (name, j, g) two)
+begun-clash (commands.ListLine n entry) _ name k j f g one two alike = absurd (none-some (name, j, g) two)
+begun-clash (commands.PrefixLine n order entry) _ name k j f g one two alike = absurd (none-some (name, j, g) two)
+begun-clash _ v name k j f g one two alike = absurd (none-some (name, k, f) one)
 
--- two packet lists of one name are one
-pub same-packets : (cs : List FileCommand) (c d : FileCommand) (name : List ℕ) (k j : ListKind) (f g : ListForm) → AllPairs Apart cs → Contains cs c → Contains cs d →
-    list_begun c.command ≡ Some (name, k, f) → list_begun d.command ≡ Some (name, j, g) →
-    k ≢ kinds.Prefix → j ≢ kinds.Prefix → part_of c ≡ part_of d
-same-packets cs c d name k j f g once in_c in_d one two no_k no_j = ⊎_elim
+-- two lists of one name and kind are one
+pub same-group : (cs : List FileCommand) (c d : FileCommand) (name : List ℕ) (k j : ListKind) (f g : ListForm) → AllPairs Apart cs → Contains cs c → Contains cs d →
+    list_begun c.command ≡ Some (name, k, f) → list_begun d.command ≡ Some (name, j, g) → is_packet_kind k ≡ is_packet_kind j → part_of c ≡ part_of d
+same-group cs c d name k j f g once in_c in_d one two alike = ⊎_elim
     (λ (clash : Clash c.command d.command × Clash d.command c.command). ap part_of (same-stand cs c d once in_c in_d clash.0 clash.1))
     (λ (same : (a b : ℕ) → part_in a c.command ≡ part_in b d.command). same c.block d.block)
-    (begun-clash c.command d.command name k j f g one two no_k no_j)
-
--- and two prefix lists
-pub same-routes : (c d : FileCommand) (name : List ℕ) (f g : ListForm) → list_begun c.command ≡ Some (name, kinds.Prefix, f) → list_begun d.command ≡ Some (name, kinds.Prefix, g) →
-    part_of c ≡ part_of d
-same-routes c d name f g one two = prefix-part c.block c.command f one ∙ sym (prefix-part d.block d.command g two)
-  where
-    standard-prefix : kinds.Standard ≡ kinds.Prefix → ⊥
-    standard-prefix e = absurd cc
-
-    extended-prefix : kinds.Extended ≡ kinds.Prefix → ⊥
-    extended-prefix e = absurd cc
-
-    number-prefix : (b : Bool) → (if b then kinds.Standard else kinds.Extended) ≡ kinds.Prefix → ⊥
-    number-prefix true e = standard-prefix e
-    number-prefix false e = extended-prefix e
-
-    block-prefix : (b : Bool) → (if b then kinds.Extended else kinds.Standard) ≡ kinds.Prefix → ⊥
-    block-prefix true e = extended-prefix e
-    block-prefix false e = standard-prefix e
-
-    prefix-part : (block : ℕ) (command : Command) (h : ListForm) → list_begun command ≡ Some (name, kinds.Prefix, h) → part_in block command ≡ groups.PrefixLines name
-    prefix-part block (commands.PrefixLine n order entry) h e = ap groups.PrefixLines (begun-parts name n kinds.Prefix h _ _ e).0
-    prefix-part block (commands.ListBlock o n) h e = absurd (block-prefix o (begun-parts name n kinds.Prefix h _ _ e).1)
-    prefix-part block (commands.ListLine n entry) h e = absurd (number-prefix (option_map_or is_standard (number_of n) false) (begun-parts name n kinds.Prefix h _ _ e).1)
-    prefix-part block _ h e = absurd (none-some (name, kinds.Prefix, h) e)
+    (begun-clash c.command d.command name k j f g one two alike)

@@ -36,9 +36,9 @@ use Rattle.line_edit_laws.specs.Sites.{Site, Written, Single, chunk_commands, in
 use Rattle.patch_laws.specs.EditFiles.{IsEditedFile}
 use Rattle.patch_laws.specs.EditSites.{added, ends_at, entries_at, grow, new_key, new_tops, put, singles, with_number}
 use Rattle.patch_laws.specs.NewListSites.{list_chunks, new_chunks}
-use Rattle.patch_laws.proofs.EditParts.{entry-at, end-at, end-part, all-in}
+use Rattle.patch_laws.proofs.EditParts.{entry-at, end-at, end-part}
 use Rattle.patch_laws.proofs.EditBusy.{process-here, process-line}
-use Rattle.patch_laws.proofs.EditEntries.{all-from}
+use Rattle.patch_laws.proofs.EditEntries.{all-from, all-in}
 use Rattle.patch_laws.proofs.FileParts.{rising, prefix-command, listed}
 use Rattle.patch_laws.proofs.NewListGroups.{part_for, segment-of, single-commands}
 

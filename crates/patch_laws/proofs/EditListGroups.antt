@@ -39,6 +39,7 @@ use Rattle.patch_laws.specs.EditSites.{entries_at, with_number}
 use Rattle.patch_laws.specs.ListsGrow.{list_begun}
 use Rattle.patch_laws.proofs.EditBlocks.{plainly, bare-written, heads-same, members-of, grown-first, bare-plain}
 use Rattle.patch_laws.proofs.EditGrow.{own, grow_at, after_at, new_at, grow-is}
+use Rattle.patch_laws.proofs.EditLists.{none-in}
 use Rattle.patch_laws.proofs.EditParts.{EndAt, OfProcess, OfFace, end-at, block-own}
 use Rattle.patch_laws.proofs.ListsGrow.{made, by-head, lists-grow}
 
@@ -151,7 +152,7 @@ module _ (net : Network) (places : List Places) (chosen : List Edit) (router : �
 
   module _ (q : Part) (first : FileCommand) (rest : List FileCommand) (is : members cs q ≡ first ∷ rest) (x : List ℕ × ListKind × ListForm) (begun : list_begun first.command ≡ Some x) where
     pub no-ends : (c : FileCommand) → Contains (members cs q) c → ends_at c ≡ []
-    no-ends c there = by (ends_at c) refl
+    no-ends c there = none-in (ends_at c) (λ w in_ends. at-end w (end-at net places chosen router text lines cs f c w (members-of cs q c there).0 in_ends))
       where
         of-head : (head : FileCommand) → Contains cs head → head.block ≡ head.line → head.block ≢ 0 → c.block ≡ head.line → list_begun head.command ≡ None → ⊥
         of-head head among own_head some block none =
@@ -168,10 +169,6 @@ module _ (net : Network) (places : List Places) (chosen : List Edit) (router : �
             (opens-none p.head.command p.within p.block.opens (⊎_elim (λ ospf. inl ospf.0) (λ bgp. inr bgp.0) p.kind))
         at-end w (OfFace e) =
             of-head e.block.head e.block.block.among e.block.block.own e.block.block.some (ap (λ (y : FileCommand). y.block) e.last ∙ e.block.block.last_block) (ap list_begun e.block.name)
-
-        by : (ws : List Written) → ends_at c ≡ ws → ws ≡ []
-        by [] e = refl
-        by (w ∷ ws) e = absurd (at-end w (end-at net places chosen router text lines cs f c w (members-of cs q c there).0 (subst (λ (l : List Written). Contains l w) (sym e) (Contains-head w ws))))
 
     -- each command shows its new entries before itself
     pub shows : (c : FileCommand) → Contains (members cs q) c → shown (grown_at c) ≡ written (new_entries c) ++ shown (c ∷ [])

@@ -1,9 +1,8 @@
 -- The commands of a list that a file sets, and the tables of what edits put at lines.
-use Rattle.std.proofs.Common.{◌≡◌, ◌≢◌, ℕ, ◌==◌, Bool, true, false, if◌then◌else◌, Option, Some, None, List, [], ◌∷◌, ◌++◌, map, refl, sym, ap, subst, ◌∙◌, ⊎_elim, Contains}
+use Rattle.std.proofs.Common.{◌≡◌, ◌≢◌, ℕ, Bool, true, false, if◌then◌else◌, Option, Some, None, List, [], ◌∷◌, ◌++◌, map, refl, sym, ap, subst, ◌∙◌, ⊎_elim, Contains, append-nil}
 use Rattle.std.specs.Prelude.{slice_get, slice_index}
 use Rattle.std.specs.List.{filter_map}
 use Rattle.std.specs.Option.{option_map_or}
-use Rattle.std.proofs.lemmas.Bool.{eqb-true}
 use Rattle.std.proofs.lemmas.Option.{none-some, same_Some}
 use Rattle.std.proofs.lemmas.List.Elements.{filter_map-append}
 use Rattle.arc_base.proofs.Items.{Contains-cases, Contains-none, Contains-head, from_map, from_piece, from_filter}
@@ -11,7 +10,6 @@ use Rattle.net_model.specs.declared.lists.PacketList.{PacketList}
 use Rattle.net_model.specs.declared.lists.RouteList.{RouteList}
 use Rattle.net_model.specs.declared.rows.Network.{Network}
 use Rattle.ios_words.specs.declared.commands.Command.{Command}
-use Rattle.ios_words.specs.declared.commands.Command.TheVariants as commands
 use Rattle.ios_config.specs.declared.commands.FileCommand.{FileCommand}
 use Rattle.ios_config.specs.declared.settings.Given.{Given}
 use Rattle.ios_config.specs.declared.settings.ListForm.{ListForm}
@@ -25,6 +23,7 @@ use Rattle.net_build.specs.Places.{list_place, places_of}
 use Rattle.edit_list.specs.declared.edit_kinds.Edit.{Edit}
 use Rattle.edit_list.specs.Changes.{packet_list_change, route_list_change}
 use Rattle.arc_base.specs.Numbered.{of_number, if_number, is_empty, placed}
+use Rattle.edit_list.proofs.Apart.{number_told}
 use Rattle.edit_list.proofs.NewListFacts.{picked_from, placed_is}
 use Rattle.line_patcher.specs.EntryLines.{first_line, for_list, edited_by, edited_packet_lists, edited_route_lists, packet_place, route_place}
 use Rattle.patch_laws.specs.EditFiles.{HasPacketList, HasRouteList}
@@ -99,24 +98,26 @@ entry-command cs list h g there =
 pub of-append : {X : Type 0} (n : ℕ) (xs ys : List (ℕ × X)) → of_number n (xs ++ ys) ≡ of_number n xs ++ of_number n ys
 of-append n xs ys = filter_map-append (if_number n) xs ys
 
+-- of two tables one has nothing at the number
+pub only-first : {X : Type 0} (n : ℕ) (xs ys : List (ℕ × X)) → of_number n ys ≡ [] → of_number n (xs ++ ys) ≡ of_number n xs
+only-first {X} n xs ys none = of-append n xs ys ∙ ap (λ (l : List X). of_number n xs ++ l) none ∙ append-nil (of_number n xs)
+
+pub only-second : {X : Type 0} (n : ℕ) (xs ys : List (ℕ × X)) → of_number n xs ≡ [] → of_number n (xs ++ ys) ≡ of_number n ys
+only-second {X} n xs ys none = of-append n xs ys ∙ ap (λ (l : List X). l ++ of_number n ys) none
+
 pub from-number : {X : Type 0} (n : ℕ) (xs : List (ℕ × X)) (x : X) → Contains (of_number n xs) x → Contains xs (n, x)
 from-number {X} n xs x there =
     let (item, among, picked) = picked_from (if_number n) xs x there in
-    by item among picked (item.0 == n) refl
-  where
-    by : (item : ℕ × X) → Contains xs item → if_number n item ≡ Some x → (b : Bool) → (item.0 == n) ≡ b → Contains xs (n, x)
-    by item among picked true e =
-        let number : item.0 ≡ n = eqb-true item.0 n e in
-        let thing : item.1 ≡ x = same_Some item.1 x (ap (λ (b : Bool). if b then Some item.1 else None) (sym e) ∙ picked) in
-        subst (λ (y : ℕ × X). Contains xs y) (λ i. (number i, thing i)) among
-    by item among picked false e = absurd (none-some x (ap (λ (b : Bool). if b then Some item.1 else None) (sym e) ∙ picked))
+    let told = number_told n item x picked in
+    subst (λ (y : ℕ × X). Contains xs y) (λ i. (told.0 i, told.1 i)) among
+
+-- a list that nothing is in
+pub none-in : {X : Type 0} (xs : List X) → ((x : X) → Contains xs x → ⊥) → xs ≡ []
+none-in [] none = refl
+none-in (x ∷ xs) none = absurd (none x (Contains-head x xs))
 
 pub none-at : {X : Type 0} (n : ℕ) (xs : List (ℕ × X)) → ((item : ℕ × X) → Contains xs item → item.0 ≢ n) → of_number n xs ≡ []
-none-at {X} n xs other = by (of_number n xs) refl
-  where
-    by : (ys : List X) → of_number n xs ≡ ys → ys ≡ []
-    by [] e = refl
-    by (y ∷ ys) e = absurd (other (n, y) (from-number n xs y (subst (λ (l : List X). Contains l y) (sym e) (Contains-head y ys))) refl)
+none-at n xs other = none-in (of_number n xs) (λ y there. other (n, y) (from-number n xs y there) refl)
 
 -- the router's lists that are edited
 pub record EditedRow {L X : Type 0} (router_of : L → ℕ) (change : Edit → Option (ℕ × X)) (lists : List L) (chosen : List Edit) (router id : ℕ) : Type 0 where
@@ -153,7 +154,7 @@ pub edited-routes : (net : Network) (chosen : List Edit) (router id : ℕ) → C
 edited-routes net = edited-list (λ (l : RouteList). l.router.0) route_list_change net.route_lists
 
 -- what a file has for a list that it has
-lists-have : {L X : Type 0} (lists : List L) (of_list : L → Option ListPlace) (things : L → ListPlace → List X) (id : ℕ) (row : L) (place : ListPlace) → slice_get lists id ≡ Some row →
+pub lists-have : {L X : Type 0} (lists : List L) (of_list : L → Option ListPlace) (things : L → ListPlace → List X) (id : ℕ) (row : L) (place : ListPlace) → slice_get lists id ≡ Some row →
     of_list row ≡ Some place → for_list lists of_list things id ≡ things row place
 lists-have {L} {X} lists of_list things id row place at there =
     ap (λ (o : Option L). option_map_or (λ (list : L). option_map_or (things list) (of_list list) []) o []) at ∙ ap (λ (o : Option ListPlace). option_map_or (things row) o []) there

@@ -1,16 +1,12 @@
 -- The lists of a file show the entries of the edits before their own.
-use Rattle.std.proofs.Common.{◌≡◌, ◌≢◌, ℕ, ◌==◌, ◌&&◌, ◌⊎◌, inl, inr, Bool, true, false, if◌then◌else◌, Option, Some, None, List, [], ◌∷◌, ◌++◌, map, refl, sym, ap, subst, ◌∙◌, ⊎_elim}
-use Rattle.std.proofs.Common.{Contains, append-nil}
+use Rattle.std.proofs.Common.{◌≡◌, ◌≢◌, ℕ, ◌==◌, ◌&&◌, Bool, true, false, if◌then◌else◌, Option, Some, None, List, [], ◌∷◌, ◌++◌, map, refl, sym, ap, subst, ◌∙◌}
+use Rattle.std.proofs.Common.{Contains}
 use Rattle.std.specs.Prelude.{AllPairs, bytes_eq, option_and_then, slice_get, slice_index}
-use Rattle.std.specs.List.{cons_option, filter_map, flat_map}
-use Rattle.std.proofs.lemmas.Bool.{and_parts, eq-eqb, eqb-true}
+use Rattle.std.specs.List.{cons_option, enumerate_from, filter_map, flat_map}
+use Rattle.std.proofs.lemmas.Bool.{and_parts, eq-eqb, eqb-true, false≢true}
 use Rattle.std.proofs.lemmas.Option.{same_Some, none-some}
 use Rattle.std.proofs.lemmas.Slice.Eq.{bytes_eq-Decides}
-use Rattle.arc_base.specs.declared.prefix.Prefix.{Prefix}
 use Rattle.arc_base.proofs.Items.{Contains-head}
-use Rattle.net_model.specs.declared.lists.PacketList.{PacketList}
-use Rattle.net_model.specs.declared.lists.RouteList.{RouteList}
-use Rattle.net_model.specs.declared.policies.Class.{Class}
 use Rattle.net_model.specs.declared.rows.Network.{Network}
 use Rattle.ios_lines.specs.declared.line.Lines.{Lines}
 use Rattle.ios_lines.specs.Texts.{text_lines}
@@ -18,44 +14,40 @@ use Rattle.ios_words.specs.declared.commands.Command.{Command}
 use Rattle.ios_config.specs.declared.commands.FileCommand.{FileCommand}
 use Rattle.ios_config.specs.declared.settings.Given.{Given}
 use Rattle.ios_config.specs.declared.settings.ListForm.{ListForm}
-use Rattle.ios_config.specs.declared.settings.ListForm.TheVariants as forms
 use Rattle.ios_config.specs.declared.settings.ListKind.{ListKind}
-use Rattle.ios_config.specs.declared.settings.ListKind.TheVariants as kinds
 use Rattle.ios_config.specs.declared.settings.ListText.{ListText}
 use Rattle.ios_config.specs.Bare.{bare}
 use Rattle.ios_config.specs.Groups.{Part, part_of, members}
 use Rattle.ios_config.specs.Texts.{config_of, entries, given, is_entry}
 use Rattle.net_build.specs.declared.built.ListPlace.{ListPlace}
 use Rattle.net_build.specs.declared.built.Places.{Places}
-use Rattle.net_rules.specs.Lists.{packet_entries, packet_entry, route_entries, route_entry}
+use Rattle.net_rules.specs.Lists.{is_packet_kind}
 use Rattle.net_build.specs.Places.{list_place}
 use Rattle.edit_list.specs.declared.edit_kinds.Edit.{Edit}
-use Rattle.edit_list.specs.declared.edit_kinds.Edit.TheVariants as edits
-use Rattle.edit_list.specs.After.{opposite_packet_entry, opposite_route_entry}
-use Rattle.edit_list.specs.Changes.{list_prefixes, list_classes, packet_list_change, route_list_change}
 use Rattle.arc_base.specs.Numbered.{if_number, is_empty, of_number, placed}
 use Rattle.edit_list.proofs.NewListFacts.{pairs_picked, picked_from, picks, placed_apart, placed_there}
-use Rattle.line_patcher.specs.EntryLines.{at_front, class_commands, first_line, edited_by, edited_lists, edited_packet_lists, edited_route_lists, packet_command}
-use Rattle.line_patcher.specs.EntryLines.{packet_list_entries, prefix_commands, route_list_entries}
-use Rattle.settings_edit_laws.specs.Additions.{class_for, front_lines, if_own_list, prefix_for, route_line}
+use Rattle.line_patcher.specs.EntryLines.{at_front, edited_by, edited_lists, edited_packet_lists, edited_route_lists, first_line, for_list, packet_list_entries, route_list_entries}
+use Rattle.settings_edit_laws.specs.Additions.{front_lines, if_own_list}
 use Rattle.settings_edit_laws.specs.Plain.{said, plain_entry}
 use Rattle.settings_edit_laws.proofs.NewNames.{numbered}
-use Rattle.settings_edit_laws.proofs.ListRows.{things_same}
-use Rattle.settings_edit_laws.proofs.TextKinds.{packet_texts, route_texts}
+use Rattle.settings_edit_laws.proofs.ListRows.{entries_of, things_same}
+use Rattle.settings_edit_laws.proofs.TextKinds.{TextsOfKind, packet_texts, route_texts}
+use Rattle.edit_space.proofs.ListKinds.{ListsOfKind}
+use Rattle.patch_laws.proofs.EditKinds.{KindInFile, packets_in, routes_in}
 use Rattle.settings_edit_laws.proofs.SessionFacts.{one_named}
-use Rattle.settings_edit_laws.proofs.Tables.{plain_packet_entries, plain_route_entries}
-use Rattle.patch_laws.specs.EditFiles.{IsEditedFile, HasPacketList, HasRouteList}
+use Rattle.settings_edit_laws.proofs.Tables.{plain_picks}
+use Rattle.patch_laws.specs.EditFiles.{IsEditedFile}
 use Rattle.patch_laws.specs.EditSites.{entries_at}
 use Rattle.patch_laws.specs.Written.{written_of}
 use Rattle.patch_laws.specs.ListsGrow.{list_begun}
 use Rattle.patch_laws.proofs.EditBlocks.{heads-same, members-of}
 use Rattle.patch_laws.proofs.RowLines.{of-number-here, of-number-other}
-use Rattle.patch_laws.proofs.EditFrontLines.{flat-none, flat-one, classes-written, routes-written, same-packets, same-routes}
+use Rattle.patch_laws.proofs.EditFrontLines.{begins, flat-none, flat-one, same-group}
 use Rattle.patch_laws.proofs.EditFronts.{FirstOf, none-front, some-front}
 use Rattle.patch_laws.proofs.EditGrow.{own, grow_at}
 use Rattle.patch_laws.proofs.EditGrown.{ListsShow}
 use Rattle.patch_laws.proofs.EditListGroups.{shown, written, plain}
-use Rattle.patch_laws.proofs.EditLists.{EditedRow, edited-list, list-group, entry-command, first-entry, of-append, edited-packets, edited-routes, packets-have, routes-have}
+use Rattle.patch_laws.proofs.EditLists.{EditedRow, edited-list, list-group, entry-command, first-entry, lists-have, only-first, only-second}
 use Rattle.patch_laws.proofs.EditParts.{group-part}
 use Rattle.patch_laws.proofs.FileParts.{one-line, rising}
 
@@ -72,15 +64,6 @@ shown-is (c ∷ g) = by (is_entry c.command) (shown-is g)
 not-empty : {X : Type 0} (xs : List X) → xs ≢ [] → is_empty xs ≡ false
 not-empty [] some = absurd (some refl)
 not-empty (x ∷ xs) some = refl
-
-extended-prefix : kinds.Extended ≡ kinds.Prefix → ⊥
-extended-prefix e = absurd cc
-
-standard-prefix : kinds.Standard ≡ kinds.Prefix → ⊥
-standard-prefix e = absurd cc
-
-abbrev begins : List ℕ → ListKind → ListForm → Option (List ℕ × ListKind × ListForm)
-begins name k f = Some (name, k, f)
 
 some-item : {X : Type 0} (x : X) (xs : List X) → x ∷ xs ≢ []
 some-item x xs e = cc
@@ -136,6 +119,12 @@ module _ (net : Network) (places : List Places) (chosen : List Edit) (router : �
   abbrev own_at : Places
   own_at = own net places chosen router text lines cs
 
+  abbrev packets_here : KindInFile (packet_texts net chosen f.valid) router cs
+  packets_here = packets_in net places chosen router text lines cs f
+
+  abbrev routes_here : KindInFile (route_texts net chosen f.valid) router cs
+  routes_here = routes_in net places chosen router text lines cs f
+
   module _ (q : Part) (first : FileCommand) (rest : List FileCommand) (is : members cs q ≡ first ∷ rest) (x : List ℕ × ListKind × ListForm) (begun : list_begun first.command ≡ Some x) where
     abbrev mine : ListText
     mine = plain net places chosen router text lines cs f q first rest is x begun
@@ -171,75 +160,88 @@ module _ (net : Network) (places : List Places) (chosen : List Edit) (router : �
     group-in : (list : ListText) (among : Contains (config_of cs).lists list) → Contains cs (list-group cs list among).first
     group-in list among = let g = list-group cs list among in (members-of cs g.part g.first (subst (λ (l : List FileCommand). Contains l g.first) (sym g.is) (Contains-head g.first g.rest))).0
 
-    class-row : (edit : Edit) (z : Class) → class_for net router x.0 edit ≡ Some z →
-        (id : ℕ) × (row : PacketList) × (slice_get net.packet_lists id ≡ Some row) × (row.router.0 ≡ router) × (row.name ≡ x.0)
-    class-row (edits.PacketList list item) z made = by (slice_get net.packet_lists list.0) refl made
-      where
-        by : (o : Option PacketList) → slice_get net.packet_lists list.0 ≡ o → option_and_then (λ (l : PacketList). if_own_list router x.0 l.router.0 l.name item) o ≡ Some z →
-            (id : ℕ) × (row : PacketList) × (slice_get net.packet_lists id ≡ Some row) × (row.router.0 ≡ router) × (row.name ≡ x.0)
-        by None at made = absurd (none-some z made)
-        by (Some row) at made = let both = own-parts router x.0 row.router.0 row.name item z made in (list.0, row, at, both.0, both.1)
-    class-row _ z made = absurd (none-some z made)
+    module _ {K : ListsOfKind net chosen} {T : TextsOfKind net chosen K} (R : KindInFile T router cs) where
+      abbrev pub things_of : ℕ → List T.Thing
+      things_of id = of_number id (filter_map T.change chosen)
 
-    -- the network's list that edits put entries into is that of the group
-    pub record HasClasses : Type 0 where
-      pub id : ℕ
-      pub row : PacketList
-      pub at : slice_get net.packet_lists id ≡ Some row
-      pub here : row.router.0 ≡ router
-      pub named : row.name ≡ x.0
-      pub some : list_classes chosen id ≢ []
-      pub has : HasPacketList cs row
-      pub is_this : IsThis has.list
-      pub same : list_classes chosen id ≡ filter_map (class_for net router x.0) chosen
+      abbrev things : List T.Thing
+      things = filter_map (T.thing_for router x.0) chosen
 
-    pub classes-found : (z : Class) (zs : List Class) → filter_map (class_for net router x.0) chosen ≡ z ∷ zs → x.1 ≢ kinds.Prefix → HasClasses
-    classes-found z zs made kind =
-        let (edit, in_chosen, picked) = picked_from (class_for net router x.0) chosen z (subst (λ (l : List Class). Contains l z) (sym made) (Contains-head z zs)) in
-        let (id, row, at, here, named) = class-row edit z picked in
-        let same : list_classes chosen id ≡ filter_map (class_for net router x.0) chosen = things_same (packet_texts net chosen f.valid) router x.0 id row at here named in
-        let some : list_classes chosen id ≢ [] = λ none. some-item z zs (sym made ∙ sym same ∙ none) in
-        let h = f.packets id row at here some in
-        let g = list-group cs h.list h.among in
-        let begun_g : list_begun g.first.command ≡ begins x.0 h.list.kind h.list.form = g.begun ∙ ap (λ (nm : List ℕ). begins nm h.list.kind h.list.form) (h.name ∙ named) in
-        let part : g.part ≡ q = sym (group-part cs h.list g) ∙ same-packets cs g.first first x.0 h.list.kind x.1 h.list.form x.2 f.once (group-in h.list h.among) first-in begun_g begun
-        (λ p. extended-prefix (sym h.kind ∙ p)) kind ∙ first-part in
-        record { id = id; row = row; at = at; here = here; named = named; some = some; has = h; is_this = this h.list h.among part; same = same }
+      own-row : (edit : Edit) (z : T.Thing) → T.thing_for router x.0 edit ≡ Some z →
+          (id : ℕ) × (row : K.Row) × (slice_get K.lists id ≡ Some row) × (K.router row ≡ router) × (K.name row ≡ x.0)
+      own-row edit z made = by-change (T.change edit) (sym (T.for_is router x.0 edit) ∙ made)
+        where
+          by-list : (id : ℕ) (y : T.Thing) (o : Option K.Row) → slice_get K.lists id ≡ o → option_and_then (λ (l : K.Row). if_own_list router x.0 (K.router l) (K.name l) y) o ≡ Some z →
+              (id : ℕ) × (row : K.Row) × (slice_get K.lists id ≡ Some row) × (K.router row ≡ router) × (K.name row ≡ x.0)
+          by-list id y None at told = absurd (none-some z told)
+          by-list id y (Some row) at told = let both = own-parts router x.0 (K.router row) (K.name row) y z told in (id, row, at, both.0, both.1)
 
-    prefix-row : (edit : Edit) (z : Prefix) → prefix_for net router x.0 edit ≡ Some z →
-        (id : ℕ) × (row : RouteList) × (slice_get net.route_lists id ≡ Some row) × (row.router.0 ≡ router) × (row.name ≡ x.0)
-    prefix-row (edits.RouteList list item) z made = by (slice_get net.route_lists list.0) refl made
-      where
-        by : (o : Option RouteList) → slice_get net.route_lists list.0 ≡ o → option_and_then (λ (l : RouteList). if_own_list router x.0 l.router.0 l.name item) o ≡ Some z →
-            (id : ℕ) × (row : RouteList) × (slice_get net.route_lists id ≡ Some row) × (row.router.0 ≡ router) × (row.name ≡ x.0)
-        by None at made = absurd (none-some z made)
-        by (Some row) at made = let both = own-parts router x.0 row.router.0 row.name item z made in (list.0, row, at, both.0, both.1)
-    prefix-row _ z made = absurd (none-some z made)
+          by-change : (o : Option (ℕ × T.Thing)) →
+              option_and_then (λ (c : ℕ × T.Thing). option_and_then (λ (l : K.Row). if_own_list router x.0 (K.router l) (K.name l) c.1) (slice_get K.lists c.0)) o ≡ Some z →
+              (id : ℕ) × (row : K.Row) × (slice_get K.lists id ≡ Some row) × (K.router row ≡ router) × (K.name row ≡ x.0)
+          by-change None told = absurd (none-some z told)
+          by-change (Some c) told = by-list c.0 c.1 (slice_get K.lists c.0) refl told
 
-    -- the network's list that edits put entries into is that of the group
-    pub record HasPrefixes : Type 0 where
-      pub id : ℕ
-      pub row : RouteList
-      pub at : slice_get net.route_lists id ≡ Some row
-      pub here : row.router.0 ≡ router
-      pub named : row.name ≡ x.0
-      pub some : list_prefixes chosen id ≢ []
-      pub has : HasRouteList cs row
-      pub is_this : IsThis has.list
-      pub same : list_prefixes chosen id ≡ filter_map (prefix_for net router x.0) chosen
+      -- the network's list that edits put entries into is that of the group
+      pub record HasThings : Type 0 where
+        pub id : ℕ
+        pub row : K.Row
+        pub at : slice_get K.lists id ≡ Some row
+        pub here : K.router row ≡ router
+        pub named : K.name row ≡ x.0
+        pub some : things_of id ≢ []
+        pub has : R.Has row
+        pub is_this : IsThis (R.list row has)
+        pub same : things_of id ≡ things
 
-    pub prefixes-found : (z : Prefix) (zs : List Prefix) → filter_map (prefix_for net router x.0) chosen ≡ z ∷ zs → x.1 ≡ kinds.Prefix → HasPrefixes
-    prefixes-found z zs made kind =
-        let (edit, in_chosen, picked) = picked_from (prefix_for net router x.0) chosen z (subst (λ (l : List Prefix). Contains l z) (sym made) (Contains-head z zs)) in
-        let (id, row, at, here, named) = prefix-row edit z picked in
-        let same : list_prefixes chosen id ≡ filter_map (prefix_for net router x.0) chosen = things_same (route_texts net chosen f.valid) router x.0 id row at here named in
-        let some : list_prefixes chosen id ≢ [] = λ none. some-item z zs (sym made ∙ sym same ∙ none) in
-        let h = f.routes id row at here some in
-        let g = list-group cs h.list h.among in
-        let begun_g : list_begun g.first.command ≡ begins x.0 h.list.kind h.list.form = g.begun ∙ ap (λ (nm : List ℕ). begins nm h.list.kind h.list.form) (h.name ∙ named) in
-        let part : g.part ≡ q = sym (group-part cs h.list g) ∙ same-routes g.first first x.0 h.list.form x.2 (begun_g ∙ ap (λ (k : ListKind). begins x.0 k h.list.form) h.kind)
-        (begun ∙ ap (λ (k : ListKind). begins x.0 k x.2) kind) ∙ first-part in
-        record { id = id; row = row; at = at; here = here; named = named; some = some; has = h; is_this = this h.list h.among part; same = same }
+      pub found : (z : T.Thing) (zs : List T.Thing) → things ≡ z ∷ zs → is_packet_kind x.1 ≡ T.packet → HasThings
+      found z zs made kind =
+          let (edit, in_chosen, picked) = picked_from (T.thing_for router x.0) chosen z (subst (λ (l : List T.Thing). Contains l z) (sym made) (Contains-head z zs)) in
+          let (id, row, at, here, named) = own-row edit z picked in
+          let same : things_of id ≡ things = things_same T router x.0 id row at here named in
+          let some : things_of id ≢ [] = λ none. some-item z zs (sym made ∙ sym same ∙ none) in
+          let h = R.has id row at here some in
+          let list = R.list row h in
+          let among = R.among row h in
+          let g = list-group cs list among in
+          let begun_g : list_begun g.first.command ≡ begins x.0 list.kind list.form = g.begun ∙ ap (λ (nm : List ℕ). begins nm list.kind list.form) (R.name row h ∙ named) in
+          let part : g.part ≡ q = sym (group-part cs list g) ∙ same-group cs g.first first x.0 list.kind x.1 list.form x.2 f.once (group-in list among) first-in begun_g begun
+          (R.kind row h ∙ sym kind) ∙ first-part in
+          record { id = id; row = row; at = at; here = here; named = named; some = some; has = h; is_this = this list among part; same = same }
+
+      -- what the edits put at a number, where they put it only for the list of the group
+      module _ {Y : Type 0} (n : ℕ) (put : ListPlace → K.Row → List T.Thing → List (ℕ × Y))
+          (off : (list : ListText) → Contains (config_of cs).lists list → list.entries ≢ [] → (row : K.Row) (ts : List T.Thing) → (IsThis list → ⊥) → of_number n (put (list_place list) row ts) ≡ [])
+        where
+          abbrev table : ℕ → List (ℕ × Y)
+          table id = for_list K.lists R.place_of (λ (row : K.Row) (place : ListPlace). put place row (things_of id)) id
+
+          abbrev all_tables : List (ℕ × Y)
+          all_tables = flat_map table (edited_lists (placed K.lists) K.router T.change chosen router)
+
+          table-is : (id : ℕ) (row : K.Row) (h : R.Has row) → slice_get K.lists id ≡ Some row → table id ≡ put (list_place (R.list row h)) row (things_of id)
+          table-is id row h at = lists-have K.lists R.place_of (λ (row : K.Row) (place : ListPlace). put place row (things_of id)) id row (list_place (R.list row h)) at (R.place row h)
+
+          table-off : (id : ℕ) (r : EditedRow K.router T.change K.lists chosen router id) → ((h : R.Has r.row) → IsThis (R.list r.row h) → ⊥) → of_number n (table id) ≡ []
+          table-off id r never =
+              let h = R.has id r.row r.at r.own r.some in
+              ap (of_number n) (table-is id r.row h r.at) ∙ off (R.list r.row h) (R.among r.row h) (R.some r.row h) r.row (things_of id) (never h)
+
+          -- lists of the other kind have nothing there
+          pub none-of-kind : (is_packet_kind x.1 ≡ T.packet → ⊥) → of_number n all_tables ≡ []
+          none-of-kind other = flat-none n table (edited_lists (placed K.lists) K.router T.change chosen router) (λ id there. let r = edited-list K.router T.change K.lists chosen router id there in
+              table-off id r (λ h t. other (ap is_packet_kind (sym t.kind) ∙ R.kind r.row h)))
+
+          -- where the edits put nothing into this list
+          pub none-here : things ≡ [] → of_number n all_tables ≡ []
+          none-here empty = flat-none n table (edited_lists (placed K.lists) K.router T.change chosen router) (λ id there. let r = edited-list K.router T.change K.lists chosen router id there in
+              table-off id r (λ h t. r.some (things_same T router x.0 id r.row r.at r.own (sym (R.name r.row h) ∙ t.name) ∙ empty)))
+
+          -- where they put some
+          pub some-here : (s : HasThings) → of_number n all_tables ≡ of_number n (put (list_place (R.list s.row s.has)) s.row (things_of s.id))
+          some-here s =
+              one-list K.router K.name T.change K.lists chosen router n table K.apart s.id s.row s.at s.here s.some
+              (λ other r differ. table-off other r (λ h t. differ (sym (R.name r.row h) ∙ t.name ∙ sym s.named))) ∙ ap (of_number n) (table-is s.id s.row s.has s.at)
 
     module _ (e : Given Command) (more : List (Given Command)) (es : entries (members cs q) ≡ e ∷ more) (c : FirstOf (members cs q) e) where
       abbrev n : ℕ
@@ -258,156 +260,81 @@ module _ (net : Network) (places : List Places) (chosen : List Edit) (router : �
       line-of : (list : ListText) → IsThis list → first_line (list_place list) ≡ n
       line-of list t = ap (λ (gs : List (Given Command)). slice_index (map (λ (g : Given Command). g.line) gs) 0) (t.entries_are ∙ es) ∙ sym c.line
 
-      -- packet lists
-      abbrev class_at : ℕ → List (ℕ × Command)
-      class_at id = packet_list_entries net own_at chosen id
+      module _ {K : ListsOfKind net chosen} {T : TextsOfKind net chosen K} (R : KindInFile T router cs) where
+        abbrev fronts : ListPlace → K.Row → List T.Thing → List (ℕ × Command)
+        fronts place row ts = at_front place (map (R.command place row) (enumerate_from 1 ts))
 
-      abbrev made_classes : List Class
-      made_classes = filter_map (class_for net router x.0) chosen
+        pub fronts-off : (list : ListText) → Contains (config_of cs).lists list → list.entries ≢ [] → (row : K.Row) (ts : List T.Thing) → (IsThis list → ⊥) →
+            of_number n (fronts (list_place list) row ts) ≡ []
+        fronts-off list among some row ts never =
+            of-number-other (first_line (list_place list)) n (map (R.command (list_place list) row) (enumerate_from 1 ts)) (λ line. never (this list among (by-line list among some line)))
 
-      class-table : (id : ℕ) (row : PacketList) (h : HasPacketList cs row) → slice_get net.packet_lists id ≡ Some row →
-          class_at id ≡ at_front (list_place h.list) (class_commands (list_place h.list) row (list_classes chosen id))
-      class-table id row h at = packets-have net cs (λ (list : PacketList) (place : ListPlace). at_front place (class_commands place list (list_classes chosen id))) id row h at
+        abbrev pub all_fronts : List Command
+        all_fronts = of_number n (flat_map (λ (id : ℕ). for_list K.lists R.place_of (λ (row : K.Row) (place : ListPlace). fronts place row (things_of R id)) id)
+            (edited_lists (placed K.lists) K.router T.change chosen router))
 
-      -- a table of another list has nothing here
-      pub class-off : (id : ℕ) (r : EditedRow (λ (l : PacketList). l.router.0) packet_list_change net.packet_lists chosen router id) →
-          ((h : HasPacketList cs r.row) → IsThis h.list → ⊥) → of_number n (class_at id) ≡ []
-      class-off id r never =
-          let h = f.packets id r.row r.at r.own r.some in
-          ap (of_number n) (class-table id r.row h r.at) ∙
-          of-number-other (first_line (list_place h.list)) n (class_commands (list_place h.list) r.row (list_classes chosen id))
-          (λ line. never h (this h.list h.among (by-line h.list h.among h.some line)))
+        pub no-fronts : (is_packet_kind x.1 ≡ T.packet → ⊥) → all_fronts ≡ []
+        no-fronts = none-of-kind R n fronts fronts-off
 
-      -- where the edits put nothing into this list
-      pub no-class-here : made_classes ≡ [] → of_number n (flat_map class_at (edited_packet_lists net chosen router)) ≡ []
-      no-class-here empty = flat-none n class_at (edited_packet_lists net chosen router) (λ id there. let r = edited-packets net chosen router id there in class-off id r (λ h t.
-          r.some (things_same (packet_texts net chosen f.valid) router x.0 id r.row r.at r.own (sym h.name ∙ t.name) ∙ empty)))
+        pub no-front-here : filter_map (T.thing_for router x.0) chosen ≡ [] → all_fronts ≡ []
+        no-front-here = none-here R n fronts fronts-off
 
-      -- where they put some
-      pub classes-here : (id : ℕ) (row : PacketList) → slice_get net.packet_lists id ≡ Some row → row.router.0 ≡ router → row.name ≡ x.0 → (h : HasPacketList cs row) →
-          list_classes chosen id ≢ [] → IsThis h.list →
-          of_number n (flat_map class_at (edited_packet_lists net chosen router)) ≡ class_commands (list_place h.list) row (list_classes chosen id)
-      classes-here id row at here named h some t =
-          one-list (λ (l : PacketList). l.router.0) (λ (l : PacketList). l.name) packet_list_change net.packet_lists chosen router n class_at f.valid.packet_lists_named_apart id row at here some
-          (λ other r differ. class-off other r (λ h_o t_o. differ (sym h_o.name ∙ t_o.name ∙ sym named))) ∙
-          ap (of_number n) (class-table id row h at) ∙ of-number-here (first_line (list_place h.list)) n (class_commands (list_place h.list) row (list_classes chosen id)) (line-of h.list t)
+        pub fronts-here : (s : HasThings R) → all_fronts ≡ map (R.command (list_place (R.list s.row s.has)) s.row) (enumerate_from 1 (things_of R s.id))
+        fronts-here s =
+            some-here R n fronts fronts-off s ∙
+            of-number-here (first_line (list_place (R.list s.row s.has))) n (map (R.command (list_place (R.list s.row s.has)) s.row) (enumerate_from 1 (things_of R s.id)))
+            (line-of (R.list s.row s.has) s.is_this)
 
-      -- route lists
-      abbrev prefix_at : ℕ → List (ℕ × Command)
-      prefix_at id = route_list_entries net own_at chosen id
+        abbrev line : T.Thing → Command
+        line y = T.line mine (T.opposite (entries_of T mine) y)
 
-      abbrev made_prefixes : List Prefix
-      made_prefixes = filter_map (prefix_for net router x.0) chosen
+        -- what stands before the first entry of the list
+        front-is : is_packet_kind x.1 ≡ T.packet → written (map written_of all_fronts) ≡ map said (front_lines net chosen router mine x.1)
+        front-is kind = by (filter_map (T.thing_for router x.0) chosen) refl ∙ ap (map said) (sym (T.front_is router mine kind))
+          where
+            by : (ts : List T.Thing) → filter_map (T.thing_for router x.0) chosen ≡ ts → written (map written_of all_fronts) ≡ map said (map line (filter_map (T.thing_for router x.0) chosen))
+            by [] made = ap (λ (l : List Command). written (map written_of l)) (no-front-here made) ∙ ap (λ (l : List T.Thing). map said (map line l)) (sym made)
+            by (z ∷ zs) made =
+                let s = found R z zs made kind in
+                let list = R.list s.row s.has in
+                let same : entries_of T list ≡ entries_of T mine =
+                sym (plain_picks T.entry T.entry_plain list.entries) ∙ ap (filter_map (λ (g : Given Command). T.entry g.value)) (sym (shown-entries list s.is_this)) in
+                ap (λ (l : List Command). written (map written_of l)) (fronts-here s) ∙ R.written_is s.row s.has mine (things_of R s.id) s.is_this.name s.is_this.form same ∙
+                ap (λ (l : List T.Thing). map said (map line l)) s.same
 
-      prefix-table : (id : ℕ) (row : RouteList) (h : HasRouteList cs row) → slice_get net.route_lists id ≡ Some row →
-          prefix_at id ≡ at_front (list_place h.list) (prefix_commands (list_place h.list) row (list_prefixes chosen id))
-      prefix-table id row h at = routes-have net cs (λ (list : RouteList) (place : ListPlace). at_front place (prefix_commands place list (list_prefixes chosen id))) id row h at
+      -- only entries of the list's own kind stand there
+      pub only-packets : is_packet_kind x.1 ≡ true → entries_at net own_at chosen router c.command ≡ map written_of (all_fronts packets_here)
+      only-packets kind = ap (map written_of) (only-first n (flat_map (packet_list_entries net own_at chosen) (edited_packet_lists net chosen router))
+          (flat_map (route_list_entries net own_at chosen) (edited_route_lists net chosen router)) (no-fronts routes_here (λ other. false≢true (sym other ∙ kind))))
 
-      -- a table of another list has nothing here
-      pub prefix-off : (id : ℕ) (r : EditedRow (λ (l : RouteList). l.router.0) route_list_change net.route_lists chosen router id) → ((h : HasRouteList cs r.row) → IsThis h.list → ⊥) →
-          of_number n (prefix_at id) ≡ []
-      prefix-off id r never =
-          let h = f.routes id r.row r.at r.own r.some in
-          ap (of_number n) (prefix-table id r.row h r.at) ∙
-          of-number-other (first_line (list_place h.list)) n (prefix_commands (list_place h.list) r.row (list_prefixes chosen id))
-          (λ line. never h (this h.list h.among (by-line h.list h.among h.some line)))
+      pub only-routes : is_packet_kind x.1 ≡ false → entries_at net own_at chosen router c.command ≡ map written_of (all_fronts routes_here)
+      only-routes kind = ap (map written_of) (only-second n (flat_map (packet_list_entries net own_at chosen) (edited_packet_lists net chosen router))
+          (flat_map (route_list_entries net own_at chosen) (edited_route_lists net chosen router)) (no-fronts packets_here (λ other. false≢true (sym kind ∙ other))))
 
-      -- where the edits put nothing into this list
-      pub no-prefix-here : made_prefixes ≡ [] → of_number n (flat_map prefix_at (edited_route_lists net chosen router)) ≡ []
-      no-prefix-here empty = flat-none n prefix_at (edited_route_lists net chosen router) (λ id there. let r = edited-routes net chosen router id there in prefix-off id r (λ h t.
-          r.some (things_same (route_texts net chosen f.valid) router x.0 id r.row r.at r.own (sym h.name ∙ t.name) ∙ empty)))
-
-      -- where they put some
-      pub prefixes-here : (id : ℕ) (row : RouteList) → slice_get net.route_lists id ≡ Some row → row.router.0 ≡ router → row.name ≡ x.0 → (h : HasRouteList cs row) →
-          list_prefixes chosen id ≢ [] → IsThis h.list →
-          of_number n (flat_map prefix_at (edited_route_lists net chosen router)) ≡ prefix_commands (list_place h.list) row (list_prefixes chosen id)
-      prefixes-here id row at here named h some t =
-          one-list (λ (l : RouteList). l.router.0) (λ (l : RouteList). l.name) route_list_change net.route_lists chosen router n prefix_at f.valid.route_lists_named_apart id row at here some
-          (λ other r differ. prefix-off other r (λ h_o t_o. differ (sym h_o.name ∙ t_o.name ∙ sym named))) ∙
-          ap (of_number n) (prefix-table id row h at) ∙ of-number-here (first_line (list_place h.list)) n (prefix_commands (list_place h.list) row (list_prefixes chosen id)) (line-of h.list t)
-
-      -- at a packet list stand only entries of packet lists
-      pub only-classes : x.1 ≢ kinds.Prefix → entries_at net own_at chosen router c.command ≡ map written_of (of_number n (flat_map class_at (edited_packet_lists net chosen router)))
-      only-classes kind =
-          let none : of_number n (flat_map prefix_at (edited_route_lists net chosen router)) ≡ [] =
-          flat-none n prefix_at (edited_route_lists net chosen router) (λ id there. prefix-off id (edited-routes net chosen router id there) (λ h t. kind (sym t.kind ∙ h.kind))) in
-          ap (map written_of)
-          (of-append n (flat_map class_at (edited_packet_lists net chosen router)) (flat_map prefix_at (edited_route_lists net chosen router)) ∙
-          ap (λ (l : List Command). of_number n (flat_map class_at (edited_packet_lists net chosen router)) ++ l) none
-          ∙ append-nil (of_number n (flat_map class_at (edited_packet_lists net chosen router))))
-
-      -- and at a route list only those of route lists
-      pub only-prefixes : x.1 ≡ kinds.Prefix → entries_at net own_at chosen router c.command ≡ map written_of (of_number n (flat_map prefix_at (edited_route_lists net chosen router)))
-      only-prefixes kind =
-          let none : of_number n (flat_map class_at (edited_packet_lists net chosen router)) ≡ [] =
-          flat-none n class_at (edited_packet_lists net chosen router) (λ id there. class-off id (edited-packets net chosen router id there) (λ h t. extended-prefix (sym h.kind ∙ t.kind ∙ kind))) in
-          ap (map written_of)
-          (of-append n (flat_map class_at (edited_packet_lists net chosen router)) (flat_map prefix_at (edited_route_lists net chosen router)) ∙
-          ap (λ (l : List Command). l ++ of_number n (flat_map prefix_at (edited_route_lists net chosen router))) none)
-
-      -- what stands before the first entry of a packet list
-      classes-front : x.1 ≢ kinds.Prefix → written (entries_at net own_at chosen router c.command) ≡ map said
-          (map (λ (z : Class). packet_command x.2 x.0 None (opposite_packet_entry (packet_entries mine) z)) made_classes)
-      classes-front kind = ap written (only-classes kind) ∙ by made_classes refl
-        where
-          by : (ms : List Class) → made_classes ≡ ms → written (map written_of (of_number n (flat_map class_at (edited_packet_lists net chosen router)))) ≡ map said
-              (map (λ (z : Class). packet_command x.2 x.0 None (opposite_packet_entry (packet_entries mine) z)) made_classes)
-          by [] made = ap (λ (l : List Command). written (map written_of l)) (no-class-here made)
-              ∙ ap (λ (l : List Class). map said (map (λ (z : Class). packet_command x.2 x.0 None (opposite_packet_entry (packet_entries mine) z)) l)) (sym made)
-          by (z ∷ zs) made =
-              let s = classes-found z zs made kind in
-              let packet : (x.2 ≡ forms.Block) ⊎ (x.2 ≡ forms.Lines) = ⊎_elim (λ block. inl (sym s.is_this.form ∙ block)) (λ lines. inr (sym s.is_this.form ∙ lines.0)) s.has.form in
-              let same : s.row.entries ≡ packet_entries mine = s.has.entries ∙ sym (plain_packet_entries s.has.list)
-              ∙ ap (filter_map (λ (g : Given Command). packet_entry g.value)) (sym (shown-entries s.has.list s.is_this)) in
-              ap (λ (l : List Command). written (map written_of l)) (classes-here s.id s.row s.at s.here s.named s.has s.some s.is_this)
-              ∙ classes-written (list_place s.has.list) s.row x.2 x.0 (packet_entries mine) (list_classes chosen s.id) packet s.is_this.form s.named same ∙
-              ap (λ (l : List Class). map said (map (λ (y : Class). packet_command x.2 x.0 None (opposite_packet_entry (packet_entries mine) y)) l)) s.same
-
-      -- and before that of a route list
-      prefixes-front : x.1 ≡ kinds.Prefix → written (entries_at net own_at chosen router c.command) ≡ map said
-          (map (λ (z : Prefix). route_line x.0 (opposite_route_entry (route_entries mine) z)) made_prefixes)
-      prefixes-front kind = ap written (only-prefixes kind) ∙ by made_prefixes refl
-        where
-          by : (ms : List Prefix) → made_prefixes ≡ ms → written (map written_of (of_number n (flat_map prefix_at (edited_route_lists net chosen router)))) ≡ map said
-              (map (λ (z : Prefix). route_line x.0 (opposite_route_entry (route_entries mine) z)) made_prefixes)
-          by [] made = ap (λ (l : List Command). written (map written_of l)) (no-prefix-here made)
-              ∙ ap (λ (l : List Prefix). map said (map (λ (z : Prefix). route_line x.0 (opposite_route_entry (route_entries mine) z)) l)) (sym made)
-          by (z ∷ zs) made =
-              let s = prefixes-found z zs made kind in
-              let same : s.row.entries ≡ route_entries mine = s.has.entries ∙ sym (plain_route_entries s.has.list)
-              ∙ ap (filter_map (λ (g : Given Command). route_entry g.value)) (sym (shown-entries s.has.list s.is_this)) in
-              ap (λ (l : List Command). written (map written_of l)) (prefixes-here s.id s.row s.at s.here s.named s.has s.some s.is_this)
-              ∙ routes-written x.0 (route_entries mine) (list_place s.has.list) s.row 1 (list_prefixes chosen s.id) s.named same ∙
-              ap (λ (l : List Prefix). map said (map (λ (y : Prefix). route_line x.0 (opposite_route_entry (route_entries mine) y)) l)) s.same
-
-      front-here : (k : ListKind) → x.1 ≡ k → written (entries_at net own_at chosen router c.command) ≡ map said (front_lines net chosen router mine k)
-      front-here kinds.Extended kind = classes-front (λ p. extended-prefix (sym kind ∙ p))
-      front-here kinds.Standard kind = classes-front (λ p. standard-prefix (sym kind ∙ p))
-      front-here kinds.Prefix kind = prefixes-front kind
+      front-here : (b : Bool) → is_packet_kind x.1 ≡ b → written (entries_at net own_at chosen router c.command) ≡ map said (front_lines net chosen router mine x.1)
+      front-here true kind = ap written (only-packets kind) ∙ front-is packets_here kind
+      front-here false kind = ap written (only-routes kind) ∙ front-is routes_here kind
 
     -- a list without entries gets none
     module _ (empty : entries (members cs q) ≡ []) where
-      no-classes : x.1 ≢ kinds.Prefix → (ms : List Class) → filter_map (class_for net router x.0) chosen ≡ ms → ms ≡ []
-      no-classes kind [] made = refl
-      no-classes kind (z ∷ zs) made = let s = classes-found z zs made kind in absurd (s.has.some (s.is_this.entries_are ∙ empty))
+      no-things : {K : ListsOfKind net chosen} {T : TextsOfKind net chosen K} (R : KindInFile T router cs) → is_packet_kind x.1 ≡ T.packet → front_lines net chosen router mine x.1 ≡ []
+      no-things {K} {T} R kind = T.front_is router mine kind ∙ ap (map (λ (y : T.Thing). T.line mine (T.opposite (entries_of T mine) y))) (by (filter_map (T.thing_for router x.0) chosen) refl)
+        where
+          by : (ts : List T.Thing) → filter_map (T.thing_for router x.0) chosen ≡ ts → ts ≡ []
+          by [] made = refl
+          by (z ∷ zs) made = let s = found R z zs made kind in absurd (R.some s.row s.has (s.is_this.entries_are ∙ empty))
 
-      no-prefixes : x.1 ≡ kinds.Prefix → (ms : List Prefix) → filter_map (prefix_for net router x.0) chosen ≡ ms → ms ≡ []
-      no-prefixes kind [] made = refl
-      no-prefixes kind (z ∷ zs) made = let s = prefixes-found z zs made kind in absurd (s.has.some (s.is_this.entries_are ∙ empty))
-
-      front-none : (k : ListKind) → x.1 ≡ k → front_lines net chosen router mine k ≡ []
-      front-none kinds.Extended kind = ap (map (λ (z : Class). packet_command x.2 x.0 None (opposite_packet_entry (packet_entries mine) z)))
-          (no-classes (λ p. extended-prefix (sym kind ∙ p)) (filter_map (class_for net router x.0) chosen) refl)
-      front-none kinds.Standard kind = ap (map (λ (z : Class). packet_command x.2 x.0 None (opposite_packet_entry (packet_entries mine) z)))
-          (no-classes (λ p. standard-prefix (sym kind ∙ p)) (filter_map (class_for net router x.0) chosen) refl)
-      front-none kinds.Prefix kind = ap (map (λ (z : Prefix). route_line x.0 (opposite_route_entry (route_entries mine) z))) (no-prefixes kind (filter_map (prefix_for net router x.0) chosen) refl)
+      front-none : (b : Bool) → is_packet_kind x.1 ≡ b → front_lines net chosen router mine x.1 ≡ []
+      front-none true kind = no-things packets_here kind
+      front-none false kind = no-things routes_here kind
 
     show-by : (gs : List (Given Command)) → entries (members cs q) ≡ gs →
         shown (flat_map (λ (c : FileCommand). grow_at net places chosen router text lines cs c) (members cs q)) ≡ map said (front_lines net chosen router mine x.1) ++ shown (members cs q)
-    show-by [] es = none-front net places chosen router text lines cs f q first rest is x begun es ∙ ap (λ (l : List Command). map said l ++ shown (members cs q)) (sym (front-none es x.1 refl))
+    show-by [] es = none-front net places chosen router text lines cs f q first rest is x begun es ∙ ap (λ (l : List Command). map said l ++ shown (members cs q))
+        (sym (front-none es (is_packet_kind x.1) refl))
     show-by (e ∷ more) es =
         let (c, shows) = some-front net places chosen router text lines cs f q first rest is x begun e more es in
-        shows ∙ ap (λ (l : List (Given Command)). l ++ shown (members cs q)) (front-here e more es c x.1 refl)
+        shows ∙ ap (λ (l : List (Given Command)). l ++ shown (members cs q)) (front-here e more es c (is_packet_kind x.1) refl)
 
   pub lists-show : ListsShow net places chosen router text lines cs f
   lists-show q first rest is x begun = show-by q first rest is x begun (entries (members cs q)) refl

@@ -1,9 +1,7 @@
 -- The numbers of a list that has some rise with the entries of the edits.
-use Rattle.std.proofs.Common.{◌≡◌, ◌≢◌, ℕ, ◌+◌, ◌*◌, ◌<◌, Bool, true, if◌then◌else◌, Option, Some, None, List, [], ◌∷◌, ◌++◌, length, map, refl, sym, ap, subst, ◌∙◌, arith, ⊎_elim, Contains}
+use Rattle.std.proofs.Common.{◌≡◌, ℕ, ◌+◌, ◌*◌, ◌<◌, Bool, true, false, if◌then◌else◌, Option, Some, None, List, [], ◌∷◌, ◌++◌, length, map, refl, sym, ap, subst, ◌∙◌, arith, Contains}
 use Rattle.std.specs.List.{enumerate_from, filter_map, flat_map}
 use Rattle.std.proofs.lemmas.Bool.{false≢true}
-use Rattle.arc_base.specs.declared.prefix.Prefix.{Prefix}
-use Rattle.net_model.specs.declared.policies.Class.{Class}
 use Rattle.net_model.specs.declared.rows.Network.{Network}
 use Rattle.ios_lines.specs.declared.line.Lines.{Lines}
 use Rattle.ios_lines.specs.Texts.{text_lines}
@@ -11,34 +9,34 @@ use Rattle.ios_words.specs.declared.commands.Command.{Command}
 use Rattle.ios_config.specs.declared.commands.FileCommand.{FileCommand}
 use Rattle.ios_config.specs.declared.settings.Given.{Given}
 use Rattle.ios_config.specs.declared.settings.ListForm.{ListForm}
-use Rattle.ios_config.specs.declared.settings.ListForm.TheVariants as forms
 use Rattle.ios_config.specs.declared.settings.ListKind.{ListKind}
-use Rattle.ios_config.specs.declared.settings.ListKind.TheVariants as kinds
 use Rattle.ios_config.specs.declared.settings.ListText.{ListText}
 use Rattle.ios_config.specs.Groups.{members}
 use Rattle.ios_config.specs.Texts.{config_of, entries, entry_number, given, is_entry, is_numbered}
 use Rattle.net_build.specs.declared.built.Places.{Places}
 use Rattle.net_build.specs.Places.{list_place}
 use Rattle.edit_list.specs.declared.edit_kinds.Edit.{Edit}
-use Rattle.edit_list.specs.Changes.{list_prefixes, list_classes}
 use Rattle.arc_base.specs.Numbered.{of_number}
 use Rattle.edit_list.proofs.NewListFacts.{picks}
 use Rattle.line_patcher.specs.declared.additions.NewNumber.{NewNumber}
 use Rattle.line_patcher.specs.EntryLines.{new_number, new_numbers}
-use Rattle.settings_edit_laws.specs.Additions.{class_for, prefix_for}
 use Rattle.line_edit_laws.specs.Sites.{Written, in_block, says_other}
 use Rattle.patch_laws.specs.EditFiles.{IsEditedFile}
 use Rattle.patch_laws.specs.EditSites.{entries_at}
 use Rattle.patch_laws.specs.Written.{written_of}
-use Rattle.patch_laws.proofs.EditCounted.{Counts, alone, classes-count, counts-append, counts-rise, front-numbers, none-alone, numbers, numbers-append, numbers-are, prefixes-count}
+use Rattle.patch_laws.proofs.EditCounted.{Counts, alone, counts-append, counts-rise, front-numbers, none-alone, numbers, numbers-append, numbers-are}
 use Rattle.patch_laws.proofs.EditCounted.{renumbered, rises-of, unchanged}
 use Rattle.patch_laws.proofs.EditFronts.{FirstOf, first-of, members-rise, none-elsewhere}
 use Rattle.patch_laws.proofs.EditGrow.{own, grow_at, new_at, grow-is}
 use Rattle.patch_laws.proofs.EditListGroups.{no-ends}
 use Rattle.patch_laws.proofs.EditLists.{ListGroup, list-group}
-use Rattle.patch_laws.proofs.EditListsShow.{classes-found, classes-here, no-class-here, no-prefix-here, only-classes, only-prefixes, prefixes-found, prefixes-here}
-use Rattle.patch_laws.proofs.EditNewNumbers.{new_numbers_at, no-packets, no-routes, some-packets, some-routes}
-use Rattle.patch_laws.proofs.EditNumbers.{lines-unnumbered, number-of, rise-in}
+use Rattle.patch_laws.proofs.EditKinds.{KindInFile, packets_in, routes_in}
+use Rattle.patch_laws.proofs.EditListsShow.{all_fronts, found, fronts-here, no-front-here, only-packets, only-routes}
+use Rattle.settings_edit_laws.proofs.TextKinds.{TextsOfKind}
+use Rattle.edit_space.proofs.ListKinds.{ListsOfKind}
+use Rattle.net_rules.specs.Lists.{is_packet_kind}
+use Rattle.patch_laws.proofs.EditNewNumbers.{all_numbers, new_numbers_at, no-numbers, packets-numbered, routes-numbered, some-numbers}
+use Rattle.patch_laws.proofs.EditNumbers.{number-of, rise-in}
 use Rattle.patch_laws.proofs.EditRising.{Rises, numbers_of}
 
 module _ (net : Network) (places : List Places) (chosen : List Edit) (router : ℕ) (text : List ℕ) (lines : Lines) (cs : List FileCommand)
@@ -114,61 +112,39 @@ module _ (net : Network) (places : List Places) (chosen : List Edit) (router : �
           subst Rises (sym whole)
           (counts-rise step 1 (before c.command ++ flat_map itself group) up (counts-append step 1 (count + 1) (before c.command) (flat_map itself group) (omega (arith, long)) front.0 old))
 
-      packets-rise : list.kind ≢ kinds.Prefix → Rises (numbers (flat_map grown_at group))
-      packets-rise kind = by (filter_map (class_for net router list.name) chosen) refl
+      things-rise : {K : ListsOfKind net chosen} {T : TextsOfKind net chosen K} (R : KindInFile T router cs) → is_packet_kind list.kind ≡ T.packet →
+          entries_at net own_at chosen router c.command ≡ map written_of (all_fronts net places chosen router text lines cs f g.part g.first g.rest g.is x g.begun e more es c R) →
+          ((d : FileCommand) (there : Contains group d) → news d ≡ all_numbers net places chosen router text lines cs f g.part g.first g.rest g.is x g.begun d there R) →
+          Rises (numbers (flat_map grown_at group))
+      things-rise {K} {T} R kind front new = by (filter_map (T.thing_for router list.name) chosen) refl
         where
-          by : (zs : List Class) → filter_map (class_for net router list.name) chosen ≡ zs → Rises (numbers (flat_map grown_at group))
-          by [] made = as-before
-              (only-classes net places chosen router text lines cs f g.part g.first g.rest g.is x g.begun e more es c kind
-              ∙ ap (map written_of) (no-class-here net places chosen router text lines cs f g.part g.first g.rest g.is x g.begun e more es c made))
-              (λ d there. no-packets net places chosen router text lines cs f g.part g.first g.rest g.is x g.begun d there kind made)
+          by : (zs : List T.Thing) → filter_map (T.thing_for router list.name) chosen ≡ zs → Rises (numbers (flat_map grown_at group))
+          by [] made = as-before (front ∙ ap (map written_of) (no-front-here net places chosen router text lines cs f g.part g.first g.rest g.is x g.begun e more es c R made))
+              (λ d there. new d there ∙ no-numbers net places chosen router text lines cs f g.part g.first g.rest g.is x g.begun d there R made)
           by (z ∷ zs) made =
-              let s = classes-found net places chosen router text lines cs f g.part g.first g.rest g.is x g.begun z zs made kind in
-              let has = also-numbered s.has.list s.has.among s.is_this.entries_are in
-              let form : s.has.list.form ≡ forms.Block = ⊎_elim (λ block. block)
-              (λ rows. absurd (false≢true (sym (lines-unnumbered (text_lines text) cs f.stand s.has.list s.has.among rows.0) ∙ has))) s.has.form in
-              let front = only-classes net places chosen router text lines cs f g.part g.first g.rest g.is x g.begun e more es c kind ∙
-              ap (map written_of) (classes-here net places chosen router text lines cs f g.part g.first g.rest g.is x g.begun e more es c s.id s.row s.at s.here s.named s.has s.some s.is_this) in
-              counted 0 10 (length (list_classes chosen s.id)) s.has.list (λ k. omega arith) s.is_this.entries_are has
-              (λ d there. some-packets net places chosen router text lines cs f g.part g.first g.rest g.is x g.begun d there kind s)
-              (subst (λ (ws : List Written). Counts 10 1
-              (numbers (map (in_block c.command.block) ws)) × (length (numbers (map (in_block c.command.block) ws)) ≡ length (list_classes chosen s.id))) (sym front)
-              (classes-count c.command.block (list_place s.has.list) s.row (list_classes chosen s.id) form has))
+              let s = found net places chosen router text lines cs f g.part g.first g.rest g.is x g.begun R z zs made kind in
+              let has = also-numbered (R.list s.row s.has) (R.among s.row s.has) s.is_this.entries_are in
+              let ts = of_number s.id (filter_map T.change chosen) in
+              counted R.word R.step (length ts) (R.list s.row s.has) R.rises s.is_this.entries_are has
+              (λ d there. new d there ∙ some-numbers net places chosen router text lines cs f g.part g.first g.rest g.is x g.begun d there R s)
+              (subst (λ (ws : List Written). Counts R.step 1
+              (numbers (map (in_block c.command.block) ws)) × (length (numbers (map (in_block c.command.block) ws)) ≡ length ts))
+              (sym (front ∙ ap (map written_of) (fronts-here net places chosen router text lines cs f g.part g.first g.rest g.is x g.begun e more es c R s)))
+              (R.counts s.row s.has c.command.block ts has))
 
-      routes-rise : list.kind ≡ kinds.Prefix → Rises (numbers (flat_map grown_at group))
-      routes-rise kind = by (filter_map (prefix_for net router list.name) chosen) refl
-        where
-          by : (zs : List Prefix) → filter_map (prefix_for net router list.name) chosen ≡ zs → Rises (numbers (flat_map grown_at group))
-          by [] made = as-before
-              (only-prefixes net places chosen router text lines cs f g.part g.first g.rest g.is x g.begun e more es c kind
-              ∙ ap (map written_of) (no-prefix-here net places chosen router text lines cs f g.part g.first g.rest g.is x g.begun e more es c made))
-              (λ d there. no-routes net places chosen router text lines cs f g.part g.first g.rest g.is x g.begun d there kind made)
-          by (z ∷ zs) made =
-              let s = prefixes-found net places chosen router text lines cs f g.part g.first g.rest g.is x g.begun z zs made kind in
-              let has = also-numbered s.has.list s.has.among s.is_this.entries_are in
-              let front = only-prefixes net places chosen router text lines cs f g.part g.first g.rest g.is x g.begun e more es c kind ∙
-              ap (map written_of) (prefixes-here net places chosen router text lines cs f g.part g.first g.rest g.is x g.begun e more es c s.id s.row s.at s.here s.named s.has s.some s.is_this) in
-              counted 4 5 (length (list_prefixes chosen s.id)) s.has.list (λ k. omega arith) s.is_this.entries_are has
-              (λ d there. some-routes net places chosen router text lines cs f g.part g.first g.rest g.is x g.begun d there kind s)
-              (subst (λ (ws : List Written). Counts 5 1
-              (numbers (map (in_block c.command.block) ws)) × (length (numbers (map (in_block c.command.block) ws)) ≡ length (list_prefixes chosen s.id))) (sym front)
-              (prefixes-count c.command.block 1 (list_place s.has.list) s.row (list_prefixes chosen s.id) has))
+      kind-rises : (b : Bool) → is_packet_kind list.kind ≡ b → Rises (numbers (flat_map grown_at group))
+      kind-rises true kind = things-rise (packets_in net places chosen router text lines cs f) kind
+          (only-packets net places chosen router text lines cs f g.part g.first g.rest g.is x g.begun e more es c kind)
+          (λ d there. packets-numbered net places chosen router text lines cs f g.part g.first g.rest g.is x g.begun d there kind)
+      kind-rises false kind = things-rise (routes_in net places chosen router text lines cs f) kind
+          (only-routes net places chosen router text lines cs f g.part g.first g.rest g.is x g.begun e more es c kind)
+          (λ d there. routes-numbered net places chosen router text lines cs f g.part g.first g.rest g.is x g.begun d there kind)
 
     -- the numbers of the list with the entries of the edits
     pub numbered-rise : Rises (numbers_of (entries (flat_map grown_at group)))
     numbered-rise = subst Rises (sym (numbers-are (flat_map grown_at group))) (by-entries (entries group) refl)
       where
-        extended-prefix : kinds.Extended ≡ kinds.Prefix → ⊥
-        extended-prefix e = absurd cc
-
-        standard-prefix : kinds.Standard ≡ kinds.Prefix → ⊥
-        standard-prefix e = absurd cc
-
-        by-kind : (k : ListKind) → list.kind ≡ k → (e : Given Command) (more : List (Given Command)) → entries group ≡ e ∷ more → FirstOf group e → Rises (numbers (flat_map grown_at group))
-        by-kind kinds.Extended kind e more es c = packets-rise e more es c (λ p. extended-prefix (sym kind ∙ p))
-        by-kind kinds.Standard kind e more es c = packets-rise e more es c (λ p. standard-prefix (sym kind ∙ p))
-        by-kind kinds.Prefix kind e more es c = routes-rise e more es c kind
-
         by-entries : (gs : List (Given Command)) → entries group ≡ gs → Rises (numbers (flat_map grown_at group))
         by-entries [] es = absurd (false≢true (sym (ap is_numbered (sym (ap entries g.is) ∙ es)) ∙ sym g.numbered_is ∙ numbered))
-        by-entries (e ∷ more) es = by-kind list.kind refl e more es (first-of 1 group e more (members-rise net places chosen router text lines cs f g.part g.first g.rest g.is x g.begun) es)
+        by-entries (e ∷ more) es =
+            kind-rises e more es (first-of 1 group e more (members-rise net places chosen router text lines cs f g.part g.first g.rest g.is x g.begun) es) (is_packet_kind list.kind) refl

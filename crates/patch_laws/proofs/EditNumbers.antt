@@ -38,42 +38,21 @@ use Rattle.patch_laws.proofs.EditRows.{one-command}
 -- the commands that begin lists of each form
 pub block-begun : (command : Command) (name : List ℕ) → list_begun command ≡ Some (name, Extended, forms.Block) → command ≡ commands.ListBlock true name
 block-begun (commands.ListBlock true n) name e = ap (λ (x : List ℕ). commands.ListBlock true x) (ap (λ (x : List ℕ × ListKind × _). x.0) (same_Some _ _ e))
-block-begun (commands.ListBlock false n) name e = absurd (apart (ap (λ (x : List ℕ × ListKind × _). x.1) (same_Some _ _ e)))
-  where
-    apart : Standard ≡ Extended → ⊥
-    apart f = cc
-block-begun (commands.ListLine n entry) name e = absurd (apart (ap (λ (x : List ℕ × ListKind × _). x.2) (same_Some _ _ e)))
-  where
-    apart : forms.Lines ≡ forms.Block → ⊥
-    apart f = cc
-block-begun (commands.PrefixLine n order entry) name e = absurd (apart (ap (λ (x : List ℕ × ListKind × _). x.2) (same_Some _ _ e)))
-  where
-    apart : forms.PrefixLines ≡ forms.Block → ⊥
-    apart f = cc
+block-begun (commands.ListBlock false n) name e = let clash : Standard ≡ Extended = ap (λ (x : List ℕ × ListKind × _). x.1) (same_Some _ _ e) in absurd cc
+block-begun (commands.ListLine n entry) name e = let clash : forms.Lines ≡ forms.Block = ap (λ (x : List ℕ × ListKind × _). x.2) (same_Some _ _ e) in absurd cc
+block-begun (commands.PrefixLine n order entry) name e = let clash : forms.PrefixLines ≡ forms.Block = ap (λ (x : List ℕ × ListKind × _). x.2) (same_Some _ _ e) in absurd cc
 block-begun _ name e = absurd (none-some _ e)
 
 pub lines-begun : (command : Command) (name : List ℕ) (kind : ListKind) → list_begun command ≡ Some (name, kind, forms.Lines) → (entry : PacketText) × (command ≡ commands.ListLine name entry)
-lines-begun (commands.ListBlock b n) name kind e = absurd (apart (ap (λ (x : List ℕ × ListKind × _). x.2) (same_Some _ _ e)))
-  where
-    apart : forms.Block ≡ forms.Lines → ⊥
-    apart f = cc
+lines-begun (commands.ListBlock b n) name kind e = let clash : forms.Block ≡ forms.Lines = ap (λ (x : List ℕ × ListKind × _). x.2) (same_Some _ _ e) in absurd cc
 lines-begun (commands.ListLine n entry) name kind e = (entry, ap (λ (x : List ℕ). commands.ListLine x entry) (ap (λ (x : List ℕ × ListKind × _). x.0) (same_Some _ _ e)))
-lines-begun (commands.PrefixLine n order entry) name kind e = absurd (apart (ap (λ (x : List ℕ × ListKind × _). x.2) (same_Some _ _ e)))
-  where
-    apart : forms.PrefixLines ≡ forms.Lines → ⊥
-    apart f = cc
+lines-begun (commands.PrefixLine n order entry) name kind e = let clash : forms.PrefixLines ≡ forms.Lines = ap (λ (x : List ℕ × ListKind × _). x.2) (same_Some _ _ e) in absurd cc
 lines-begun _ name kind e = absurd (none-some _ e)
 
 pub prefixes-begun : (command : Command) (name : List ℕ) (kind : ListKind) → list_begun command ≡ Some (name, kind, forms.PrefixLines) →
     (order : Option ℕ) × (entry : RouteText) × (command ≡ commands.PrefixLine name order entry)
-prefixes-begun (commands.ListBlock b n) name kind e = absurd (apart (ap (λ (x : List ℕ × ListKind × _). x.2) (same_Some _ _ e)))
-  where
-    apart : forms.Block ≡ forms.PrefixLines → ⊥
-    apart f = cc
-prefixes-begun (commands.ListLine n entry) name kind e = absurd (apart (ap (λ (x : List ℕ × ListKind × _). x.2) (same_Some _ _ e)))
-  where
-    apart : forms.Lines ≡ forms.PrefixLines → ⊥
-    apart f = cc
+prefixes-begun (commands.ListBlock b n) name kind e = let clash : forms.Block ≡ forms.PrefixLines = ap (λ (x : List ℕ × ListKind × _). x.2) (same_Some _ _ e) in absurd cc
+prefixes-begun (commands.ListLine n entry) name kind e = let clash : forms.Lines ≡ forms.PrefixLines = ap (λ (x : List ℕ × ListKind × _). x.2) (same_Some _ _ e) in absurd cc
 prefixes-begun (commands.PrefixLine n order entry) name kind e = (order, entry, ap (λ (x : List ℕ). commands.PrefixLine x order entry) (ap (λ (x : List ℕ × ListKind × _). x.0) (same_Some _ _ e)))
 prefixes-begun _ name kind e = absurd (none-some _ e)
 
@@ -183,7 +162,7 @@ module _ (lines : List (List ℕ)) (cs : List FileCommand) (stand : AreCommandsI
           number = sym in_block;
           some = λ none. let row = (command-spot lines cs h.first stand first-of.0).line in absurd (omega arith);
           opens = ap opened_by head;
-          known = known-extended;
+          known = λ same. (let clash : kinds.Extended ≡ kinds.Inert = same in absurd cc);
         };
         no_head = λ itself.
             let one : c ≡ h.first = one-command lines cs c h.first stand among first-of.0 (sym itself ∙ in_block) in
@@ -192,9 +171,6 @@ module _ (lines : List (List ℕ)) (cs : List FileCommand) (stand : AreCommandsI
         head = head;
       }
     where
-      known-extended : kinds.Extended ≢ kinds.Inert
-      known-extended e = absurd cc
-
       entry-no-head : (order : Option ℕ) (entry : PacketText) (name : List ℕ) → commands.Entry order entry ≡ commands.ListBlock true name → ⊥
       entry-no-head order entry name e = cc
 

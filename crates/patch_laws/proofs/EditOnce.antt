@@ -1,5 +1,5 @@
 -- With what edits put at the commands of a file nothing stands twice.
-use Rattle.std.proofs.Common.{◌≡◌, ◌≢◌, ℕ, ◌+◌, ◌⊎◌, inl, inr, true, false, Option, Some, None, List, [], ◌∷◌, ◌++◌, map, refl, sym, ap, subst, ◌∙◌, ⊎_elim, Contains, length, ◌*◌, append-nil}
+use Rattle.std.proofs.Common.{◌≡◌, ◌≢◌, ℕ, ◌+◌, ◌⊎◌, inl, inr, true, Option, Some, None, List, [], ◌∷◌, ◌++◌, map, refl, sym, ap, subst, ◌∙◌, ⊎_elim, Contains, length, ◌*◌, append-nil}
 use Rattle.std.specs.Prelude.{AllPairs}
 use Rattle.std.specs.List.{AllByRecursion, enumerate_from, filter_map, flat_map}
 use Rattle.std.specs.Option.{option_and_then}
@@ -7,7 +7,8 @@ use Rattle.std.proofs.lemmas.Bool.{false≢true}
 use Rattle.std.proofs.lemmas.Option.{same_Some, none-some}
 use Rattle.std.proofs.lemmas.List.Concat.{flat_map-append}
 use Rattle.std.proofs.lemmas.List.Elements.{Contains-append_cases}
-use Rattle.arc_base.proofs.Items.{Contains-cases, Contains-none, Contains-head, Contains-tail, AllPairs-append, AllPairs-rest, AllPairs-first, AllPairs-none, AllPairs-single, from_map, from_piece}
+use Rattle.arc_base.proofs.Items.{Contains-cases, Contains-none, Contains-head, Contains-tail, from_map, from_piece}
+use Rattle.arc_base.proofs.Items.{AllPairs-among, AllPairs-append, AllPairs-rest, AllPairs-first, AllPairs-none, AllPairs-single}
 use Rattle.arc_base.specs.declared.prefix.Prefix.{Prefix}
 use Rattle.net_model.specs.declared.policies.Class.{Class}
 use Rattle.net_model.specs.declared.rows.Network.{Network}
@@ -20,9 +21,11 @@ use Rattle.ios_config.specs.declared.settings.ListForm.{ListForm}
 use Rattle.ios_config.specs.declared.settings.ListForm.TheVariants as forms
 use Rattle.ios_config.specs.declared.settings.ListKind.{ListKind}
 use Rattle.ios_config.specs.Groups.{part_in}
+use Rattle.ios_config.specs.ProcessLines.{IsQuiet}
 use Rattle.ios_config.specs.Texts.{is_entry, kind_of_number}
 use Rattle.ios_config.specs.Twice.{Stand, stand_of, excluded, Clash, StandOnce}
 use Rattle.ios_config.specs.Twice as stands
+use Rattle.ios_config.specs.Values.{hostname}
 use Rattle.net_rules.proofs.Distinct.{AllPairs-front, AllPairs-back, AllPairs-between}
 use Rattle.net_build.specs.declared.built.Places.{Places}
 use Rattle.edit_list.specs.declared.edit_kinds.Edit.{Edit}
@@ -33,6 +36,7 @@ use Rattle.arc_base.specs.Numbered.{of_number}
 use Rattle.line_patcher.specs.declared.additions.NewNumber.{NewNumber}
 use Rattle.line_patcher.specs.Additions.{numbers_at}
 use Rattle.edit_list.specs.NewLists.{named_lists}
+use Rattle.edit_list.proofs.Apart.{only_item}
 use Rattle.edit_list.proofs.NewListFacts.{picks}
 use Rattle.settings_edit_laws.proofs.Pairs.{any_of, of_any}
 use Rattle.line_edit_laws.specs.Sites.{Written, chunk_commands, in_block, says_other, new_commands}
@@ -43,7 +47,8 @@ use Rattle.line_patcher.specs.NewListLines.{deny_prefix, new_entries, new_route_
 use Rattle.patch_laws.specs.NewListSites.{AreDifferent, list_chunks, new_chunks}
 use Rattle.patch_laws.specs.Written.{written_of}
 use Rattle.patch_laws.proofs.EditGrow.{own, put_at, grow_at, more_at, after_at, new_at, grow-is, split, back_at, grown-is, in-front, in-back}
-use Rattle.patch_laws.proofs.EditParts.{entry-at, EndAt, OfProcess, OfFace, end-at, all-in, process-line}
+use Rattle.patch_laws.proofs.EditEntries.{all-in}
+use Rattle.patch_laws.proofs.EditParts.{entry-at, EndAt, OfProcess, OfFace, end-at, process-line}
 use Rattle.patch_laws.proofs.FileParts.{listed}
 use Rattle.patch_laws.proofs.NewListGroups.{single-commands}
 
@@ -51,13 +56,9 @@ use Rattle.patch_laws.proofs.NewListGroups.{single-commands}
 abbrev pub Apart : FileCommand → FileCommand → Type 0
 Apart b c = ¬ Clash b.command c.command
 
--- it makes nothing stand and excludes nothing
-abbrev pub IsSilent : Command → Type 0
-IsSilent u = (stand_of u ≡ None) × (excluded u ≡ [])
-
--- the one is silent, or clashes as the other
+-- the one is quiet, or clashes as the other
 abbrev pub Alike : Command → Command → Type 0
-Alike u c = IsSilent u ⊎ ((stand_of u ≡ stand_of c) × (excluded u ≡ excluded c))
+Alike u c = IsQuiet u ⊎ ((stand_of u ≡ stand_of c) × (excluded u ≡ excluded c))
 
 silent-first : (u v : Command) → stand_of u ≡ None → Clash u v → ⊥
 silent-first u v none clash = let found = of_any (λ (s : Stand). stand_of u ≡ Some s) (excluded v) clash in none-some found.0 (sym none ∙ found.2)
@@ -66,16 +67,16 @@ silent-last : (u v : Command) → excluded v ≡ [] → Clash u v → ⊥
 silent-last u v none clash = let found = of_any (λ (s : Stand). stand_of u ≡ Some s) (excluded v) clash in Contains-none found.0 (subst (λ (ss : List Stand). Contains ss found.0) none found.1)
 
 pub apart-alike : (u c v d : Command) → Alike u c → Alike v d → ¬ Clash c d → ¬ Clash u v
-apart-alike u c v d (inl silent) two apart clash = silent-first u v silent.0 clash
-apart-alike u c v d (inr one) (inl silent) apart clash = silent-last u v silent.1 clash
+apart-alike u c v d (inl silent) two apart clash = silent-first u v silent.stands clash
+apart-alike u c v d (inr one) (inl silent) apart clash = silent-last u v silent.excludes clash
 apart-alike u c v d (inr one) (inr two) apart clash =
     let found = of_any (λ (s : Stand). stand_of u ≡ Some s) (excluded v) clash in
     apart (any_of (λ (s : Stand). stand_of c ≡ Some s) (excluded d) found.0 (subst (λ (ss : List Stand). Contains ss found.0) two.1 found.1) (sym one.0 ∙ found.2))
 
 -- an entry of the part of another command
 entry-alike : (block : ℕ) (u c : Command) → is_entry u ≡ true → part_in block u ≡ part_in block c → Alike u c
-entry-alike block (commands.Entry order entry) c is same = inl (refl, refl)
-entry-alike block (commands.PrefixLine name order entry) c is same = inl (refl, refl)
+entry-alike block (commands.Entry order entry) c is same = inl (record { stands = refl; excludes = refl; unnamed = refl })
+entry-alike block (commands.PrefixLine name order entry) c is same = inl (record { stands = refl; excludes = refl; unnamed = refl })
 entry-alike block (commands.ListLine name entry) (commands.ListLine other more) is same = let names : name ≡ other =
     cc in inr (ap (λ (n : List ℕ). Some (stands.ListLines n)) names, ap (λ (n : List ℕ). stands.ListBlock n ∷ []) names)
 entry-alike block (commands.ListLine name entry) (commands.PrefixLine other order more) is same = absurd cc
@@ -100,13 +101,8 @@ entry-apart (commands.ListLine name entry) is clash =
     (Contains-cases (stands.ListBlock name) found.0 [] found.1)
 entry-apart _ is clash = false≢true is
 
-only : {X : Type 0} (x a : X) → Contains (x ∷ []) a → x ≡ a
-only x a one = ⊎_elim (λ (here : x ≡ a). here) (λ none. absurd (Contains-none a none)) (Contains-cases x a [] one)
-
 all-pairs : {X : Type 0} (R : X → X → Type 0) (xs : List X) → ((x y : X) → Contains xs x → Contains xs y → R x y) → AllPairs R xs
-all-pairs R [] each = AllPairs-none R
-all-pairs {X} R (x ∷ xs) each = AllPairs-append R (x ∷ []) xs (AllPairs-single R x) (all-pairs R xs (λ a b one two. each a b (Contains-tail x a xs one) (Contains-tail x b xs two)))
-    (λ a b one two. each a b (subst (λ (y : X). Contains (x ∷ xs) y) (only x a one) (Contains-head x xs)) (Contains-tail x b xs two))
+all-pairs {X} R xs each = AllPairs-among (λ (x : X) (y : X). Unit {0}) R xs (λ x y in_x in_y any. each x y in_x in_y) (λ i j d less within. tt)
 
 -- the list that stands
 abbrev list_stand : Stand → Option (List ℕ)
@@ -133,33 +129,33 @@ lines-block other name e = absurd cc
 
 excluded-list : (command : Command) (name : List ℕ) → Contains (filter_map list_stand (excluded command)) name → (k : ListKind) × (f : ListForm) × (list_begun command ≡ Some (name, k, f))
 excluded-list (commands.ListBlock extended other) name there =
-    let same : other ≡ name = ⊎_elim (λ here. here) (λ later. only other name later) (Contains-cases other name (other ∷ []) there) in
+    let same : other ≡ name = ⊎_elim (λ here. here) (λ later. only_item other name later) (Contains-cases other name (other ∷ []) there) in
     (_, _, λ i. list_begun (commands.ListBlock extended (same i)))
-excluded-list (commands.ListLine other entry) name there = let same : other ≡ name = only other name there in (_, _, λ i. Some (same i, kind_of_number other, forms.Lines))
+excluded-list (commands.ListLine other entry) name there = let same : other ≡ name = only_item other name there in (_, _, λ i. Some (same i, kind_of_number other, forms.Lines))
 excluded-list _ name there = absurd (Contains-none name there)
 
 excluded-begun : (command : Command) (name : List ℕ) → Contains (excluded command) (stands.ListBlock name) → (k : ListKind) × (f : ListForm) × (list_begun command ≡ Some (name, k, f))
 excluded-begun command name there = excluded-list command name (picks list_stand (excluded command) (stands.ListBlock name) name there refl)
 
 -- what a command of a new list makes stand: nothing, or that list
-abbrev HeadsList : List (NewList × List ℕ) → Command → Type 0
-HeadsList ns u = IsSilent u ⊎ ((named : NewList × List ℕ) × Contains ns named × (u ≡ commands.ListBlock true named.1))
+abbrev pub HeadsList : List (NewList × List ℕ) → Command → Type 0
+HeadsList ns u = IsQuiet u ⊎ ((named : NewList × List ℕ) × Contains ns named × (u ≡ commands.ListBlock true named.1))
 
-deny-silent : (name : List ℕ) (es : List (ℕ × Prefix)) (last : ℕ) → AllByRecursion (λ (w : Written). IsSilent w.command) (map written_of (map (deny_prefix name) es ++ permit_all name last ∷ []))
-deny-silent name [] last = ((refl, refl), tt)
-deny-silent name (e ∷ es) last = ((refl, refl), deny-silent name es last)
+deny-silent : (name : List ℕ) (es : List (ℕ × Prefix)) (last : ℕ) → AllByRecursion (λ (w : Written). IsQuiet w.command) (map written_of (map (deny_prefix name) es ++ permit_all name last ∷ []))
+deny-silent name [] last = (record { stands = refl; excludes = refl; unnamed = refl }, tt)
+deny-silent name (e ∷ es) last = (record { stands = refl; excludes = refl; unnamed = refl }, deny-silent name es last)
 
-class-silent : (cs : List Class) → AllByRecursion (λ (w : Written). IsSilent w.command) (map written_of (new_entries cs))
-class-silent [] = ((refl, refl), tt)
-class-silent (c ∷ cs) = ((refl, refl), class-silent cs)
+class-silent : (cs : List Class) → AllByRecursion (λ (w : Written). IsQuiet w.command) (map written_of (new_entries cs))
+class-silent [] = (record { stands = refl; excludes = refl; unnamed = refl }, tt)
+class-silent (c ∷ cs) = (record { stands = refl; excludes = refl; unnamed = refl }, class-silent cs)
 
-written-silent : (block : ℕ) (ws : List Written) → AllByRecursion (λ (w : Written). IsSilent w.command) ws → (t : FileCommand) → Contains (map (in_block block) ws) t → IsSilent t.command
+written-silent : (block : ℕ) (ws : List Written) → AllByRecursion (λ (w : Written). IsQuiet w.command) ws → (t : FileCommand) → Contains (map (in_block block) ws) t → IsQuiet t.command
 written-silent block ws all t there =
     let (w, among, same) = from_map (in_block block) ws t there in
-    subst (λ (v : FileCommand). IsSilent v.command) same (all-in (λ (x : Written). IsSilent x.command) ws w all among)
+    subst (λ (v : FileCommand). IsQuiet v.command) same (all-in (λ (x : Written). IsQuiet x.command) ws w all among)
 
 chunk-stands : (chosen : List Edit) (key : ℕ) (n : NewList × List ℕ) (t : FileCommand) → Contains (flat_map chunk_commands (new_chunks chosen key n.0 n.1)) t →
-    IsSilent t.command ⊎ (t.command ≡ commands.ListBlock true n.1)
+    IsQuiet t.command ⊎ (t.command ≡ commands.ListBlock true n.1)
 chunk-stands chosen key (Route face, name) t there =
     inl (written-silent 0 (map written_of (new_route_commands name (new_prefixes chosen face.0)))
     (deny-silent name (enumerate_from 1 (new_prefixes chosen face.0)) (5 * (length (new_prefixes chosen face.0) + 1))) t
@@ -175,21 +171,21 @@ chunk-stands chosen key (Packet face, name) t there =
 chunk-once : (chosen : List Edit) (key : ℕ) (n : NewList × List ℕ) → AllPairs Apart (flat_map chunk_commands (new_chunks chosen key n.0 n.1))
 chunk-once chosen key (Route face, name) = all-pairs Apart _ (λ x y in_x in_y clash. by x (chunk-stands chosen key (Route face, name) x in_x) in_x y clash)
   where
-    by : (x : FileCommand) → IsSilent x.command ⊎ (x.command ≡ commands.ListBlock true name) → Contains (flat_map chunk_commands (new_chunks chosen key (Route face) name)) x →
+    by : (x : FileCommand) → IsQuiet x.command ⊎ (x.command ≡ commands.ListBlock true name) → Contains (flat_map chunk_commands (new_chunks chosen key (Route face) name)) x →
         (y : FileCommand) → Clash x.command y.command → ⊥
     by x stands_x in_x y clash = silent-first x.command y.command
         (written-silent 0 (map written_of (new_route_commands name (new_prefixes chosen face.0)))
         (deny-silent name (enumerate_from 1 (new_prefixes chosen face.0)) (5 * (length (new_prefixes chosen face.0) + 1))) x
-        (subst (λ (l : List FileCommand). Contains l x) (single-commands (map written_of (new_route_commands name (new_prefixes chosen face.0)))) in_x)).0 clash
+        (subst (λ (l : List FileCommand). Contains l x) (single-commands (map written_of (new_route_commands name (new_prefixes chosen face.0)))) in_x)).stands clash
 chunk-once chosen key (Packet face, name) =
     let entries = map (in_block key) (map written_of (new_entries (new_classes chosen face.0))) in
     let silent = written-silent key (map written_of (new_entries (new_classes chosen face.0))) (class-silent (new_classes chosen face.0)) in
     subst (AllPairs Apart) (sym (append-nil (in_block key (written_of (commands.ListBlock true name)) ∷ entries)))
     (AllPairs-append Apart (in_block key (written_of (commands.ListBlock true name)) ∷ []) entries (AllPairs-single Apart (in_block key (written_of (commands.ListBlock true name))))
-    (all-pairs Apart entries (λ x y in_x in_y clash. silent-first x.command y.command (silent x in_x).0 clash))
-    (λ x y in_x in_y clash. silent-last x.command y.command (silent y in_y).1 clash))
+    (all-pairs Apart entries (λ x y in_x in_y clash. silent-first x.command y.command (silent x in_x).stands clash))
+    (λ x y in_x in_y clash. silent-last x.command y.command (silent y in_y).excludes clash))
 
-added-stands : (chosen : List Edit) (key : ℕ) (ns : List (NewList × List ℕ)) (t : FileCommand) → Contains (flat_map chunk_commands (list_chunks chosen key ns)) t → HeadsList ns t.command
+pub added-stands : (chosen : List Edit) (key : ℕ) (ns : List (NewList × List ℕ)) (t : FileCommand) → Contains (flat_map chunk_commands (list_chunks chosen key ns)) t → HeadsList ns t.command
 added-stands chosen key [] t there = absurd (Contains-none t there)
 added-stands chosen key (n ∷ ns) t there =
     by (Contains-append_cases (flat_map chunk_commands (new_chunks chosen key n.0 n.1)) (flat_map chunk_commands (list_chunks chosen (key + 1) ns)) t
@@ -224,9 +220,9 @@ added-once chosen key (n ∷ ns) different =
     (AllPairs-append Apart front back (chunk-once chosen key n) (added-once chosen (key + 1) ns different.1)
     (λ x y in_x in_y clash. apart x y (chunk-stands chosen key n x in_x) (added-stands chosen (key + 1) ns y in_y) clash))
   where
-    apart : (x y : FileCommand) → IsSilent x.command ⊎ (x.command ≡ commands.ListBlock true n.1) → HeadsList ns y.command → Clash x.command y.command → ⊥
-    apart x y (inl silent) two clash = silent-first x.command y.command silent.0 clash
-    apart x y (inr one) (inl silent) clash = silent-last x.command y.command silent.1 clash
+    apart : (x y : FileCommand) → IsQuiet x.command ⊎ (x.command ≡ commands.ListBlock true n.1) → HeadsList ns y.command → Clash x.command y.command → ⊥
+    apart x y (inl silent) two clash = silent-first x.command y.command silent.stands clash
+    apart x y (inr one) (inl silent) clash = silent-last x.command y.command silent.excludes clash
     apart x y (inr one) (inr (m, among, two)) clash =
         names-apart n.1 m.1 (all-in (λ (other : NewList × List ℕ). n.1 ≢ other.1) ns m different.0 among)
         (subst (λ (u : Command). Clash u (commands.ListBlock true m.1)) one (subst (λ (u : Command). Clash x.command u) two clash))
@@ -248,14 +244,14 @@ module _ (net : Network) (places : List Places) (chosen : List Edit) (router : �
   abbrev ends_of : FileCommand → List FileCommand
   ends_of c = map (in_block c.block) (after_at net places chosen router text lines cs c)
 
-  end-silent : (c : FileCommand) (w : Written) → EndAt net places chosen router cs f.process c w → IsSilent w.command
-  end-silent c w (OfProcess h is line) = let quiet = (process-line net places chosen router text lines cs f c.block w.command line).1 in (quiet.stands, quiet.excludes)
-  end-silent c w (OfFace e) = (ap stand_of e.says, ap excluded e.says)
+  end-silent : (c : FileCommand) (w : Written) → EndAt net places chosen router cs f.process c w → IsQuiet w.command
+  end-silent c w (OfProcess h is line) = (process-line net places chosen router text lines cs f c.block w.command line).1
+  end-silent c w (OfFace e) = record { stands = ap stand_of e.says; excludes = ap excluded e.says; unnamed = ap hostname e.says }
 
-  ends-silent : (c : FileCommand) → Contains cs c → (v : FileCommand) → Contains (ends_of c) v → IsSilent v.command
+  pub ends-silent : (c : FileCommand) → Contains cs c → (v : FileCommand) → Contains (ends_of c) v → IsQuiet v.command
   ends-silent c has v there =
       let (w, among, same) = from_map (in_block c.block) (after_at net places chosen router text lines cs c) v there in
-      subst (λ (x : FileCommand). IsSilent x.command) same (end-silent c w (end-at net places chosen router text lines cs f c w has among))
+      subst (λ (x : FileCommand). IsQuiet x.command) same (end-silent c w (end-at net places chosen router text lines cs f c w has among))
 
   grow-alike : (c v : FileCommand) → Contains cs c → Contains (grown_at c) v → Alike v.command c.command
   grow-alike c v has there =
@@ -281,8 +277,8 @@ module _ (net : Network) (places : List Places) (chosen : List Edit) (router : �
           let whole : grown_at c ≡ middle_of c ∷ ends_of c = grow-is net places chosen router text lines cs c ∙ ap (λ (l : List Written). map (in_block c.block) l ++ (middle_of c ∷ ends_of c)) is in
           subst (AllPairs Apart) (sym whole)
           (AllPairs-append Apart (middle_of c ∷ []) (ends_of c) (AllPairs-single Apart (middle_of c))
-          (all-pairs Apart (ends_of c) (λ x y in_x in_y clash. silent-first x.command y.command (ends-silent c has x in_x).0 clash))
-          (λ x y in_x in_y clash. silent-last x.command y.command (ends-silent c has y in_y).1 clash))
+          (all-pairs Apart (ends_of c) (λ x y in_x in_y clash. silent-first x.command y.command (ends-silent c has x in_x).stands clash))
+          (λ x y in_x in_y clash. silent-last x.command y.command (ends-silent c has y in_y).excludes clash))
 
   once-grown : (ds : List FileCommand) → ((c : FileCommand) → Contains ds c → Contains cs c) → AllPairs Apart ds → AllPairs Apart (flat_map grown_at ds)
   once-grown [] within once = AllPairs-none Apart
@@ -300,8 +296,8 @@ module _ (net : Network) (places : List Places) (chosen : List Edit) (router : �
   no-list named c k form among has begun = let l = listed (text_lines text) cs c named.1 k form f.stand has begun in f.free named among l.list l.among l.name_is
 
   old-new : (c x t : FileCommand) → Contains cs c → Alike x.command c.command → HeadsList (named_lists net chosen router) t.command → Clash x.command t.command → ⊥
-  old-new c x t has alike (inl silent) clash = silent-last x.command t.command silent.1 clash
-  old-new c x t has (inl silent) (inr head) clash = silent-first x.command t.command silent.0 clash
+  old-new c x t has alike (inl silent) clash = silent-last x.command t.command silent.excludes clash
+  old-new c x t has (inl silent) (inr head) clash = silent-first x.command t.command silent.stands clash
   old-new c x t has (inr alike) (inr (named, among, is)) clash =
       let found = of_any (λ (s : Stand). stand_of x.command ≡ Some s) (excluded t.command) clash in
       let stands_c : stand_of c.command ≡ Some found.0 = sym alike.0 ∙ found.2 in
@@ -316,8 +312,8 @@ module _ (net : Network) (places : List Places) (chosen : List Edit) (router : �
       no-list named c begun.0 begun.1 among has begun.2
 
   new-old : (c x t : FileCommand) → Contains cs c → Alike x.command c.command → HeadsList (named_lists net chosen router) t.command → Clash t.command x.command → ⊥
-  new-old c x t has alike (inl silent) clash = silent-first t.command x.command silent.0 clash
-  new-old c x t has (inl silent) (inr head) clash = silent-last t.command x.command silent.1 clash
+  new-old c x t has alike (inl silent) clash = silent-first t.command x.command silent.stands clash
+  new-old c x t has (inl silent) (inr head) clash = silent-last t.command x.command silent.excludes clash
   new-old c x t has (inr alike) (inr (named, among, is)) clash =
       let found = of_any (λ (s : Stand). stand_of t.command ≡ Some s) (excluded x.command) clash in
       let block : stands.ListBlock named.1 ≡ found.0 = same_Some _ _ (sym (ap stand_of is) ∙ found.2) in

@@ -1,8 +1,7 @@
 -- What edits put at a command is of the command's part.
-use Rattle.std.proofs.Common.{◌≡◌, ◌≢◌, ℕ, ◌⊎◌, inl, inr, true, Some, List, [], ◌∷◌, sym, ap, subst, ◌∙◌, ⊎_elim, Contains}
-use Rattle.std.specs.List.{AllByRecursion}
+use Rattle.std.proofs.Common.{◌≡◌, ◌≢◌, ℕ, true, Some, List, sym, ap, subst, ◌∙◌, ⊎_elim, Contains}
 use Rattle.std.proofs.lemmas.Option.{same_Some, none-some}
-use Rattle.arc_base.proofs.Items.{Contains-cases, Contains-none, Contains-head, from_map, from_filter}
+use Rattle.arc_base.proofs.Items.{Contains-head, from_map, from_filter}
 use Rattle.arc_base.specs.declared.place.Face.{Face}
 use Rattle.net_model.specs.declared.rows.Network.{Network}
 use Rattle.ios_lines.specs.declared.line.Lines.{Lines}
@@ -40,7 +39,7 @@ use Rattle.patch_laws.specs.FaceBlocks.{HasFaceBlock}
 use Rattle.patch_laws.specs.ListsGrow.{list_begun}
 use Rattle.patch_laws.specs.NewListSites.{IsNewName}
 use Rattle.patch_laws.proofs.EditBusy.{AtFace, after-item, last-line, number-item, process-here}
-use Rattle.patch_laws.proofs.EditEntries.{form_part, table-entry}
+use Rattle.patch_laws.proofs.EditEntries.{all-in, form_part, table-entry}
 use Rattle.patch_laws.proofs.EditLists.{ListGroup, list-group, entry-command, from-number, first-entry}
 use Rattle.patch_laws.proofs.EndLines.{process-lines-read}
 use Rattle.patch_laws.proofs.FileParts.{rising, one-line, block-part}
@@ -63,14 +62,6 @@ pub group-part : (cs : List FileCommand) (list : ListText) (g : ListGroup cs lis
 group-part cs list g =
     let (among, same) = from_filter (λ (c : FileCommand). is_same g.part (part_of c)) cs g.first (subst (λ (l : List FileCommand). Contains l g.first) (sym g.is) (Contains-head g.first g.rest)) in
     sym ((is_same-Decides g.part (part_of g.first)).0 same)
-
-pub all-in : {X : Type 0} (P : X → Type 0) (xs : List X) (x : X) → AllByRecursion P xs → Contains xs x → P x
-all-in P [] x all there = absurd (Contains-none x there)
-all-in {X} P (y ∷ xs) x all there = by (Contains-cases y x xs there) (all-in P xs x all.1)
-  where
-    by : (y ≡ x) ⊎ Contains xs x → (Contains xs x → P x) → P x
-    by (inl here) deeper = subst P here all.0
-    by (inr later) deeper = deeper later
 
 -- a new entry stands before the first entry of its list, and is of that list
 pub record EntryAt (cs : List FileCommand) (c : FileCommand) (w : Written) : Type 0 where

@@ -1,5 +1,5 @@
 -- The row of a command, and where it is read.
-use Rattle.std.proofs.Common.{◌≡◌, ◌≢◌, ℕ, zero, suc, ◌+◌, ◌==◌, ◌||◌, ◌⊎◌, inl, inr, Bool, true, false, Some, List, [], ◌∷◌, get_or, map, refl, sym, ap, subst, ◌∙◌, arith, Contains}
+use Rattle.std.proofs.Common.{◌≡◌, ◌≢◌, ℕ, zero, suc, ◌+◌, ◌==◌, ◌||◌, ◌⊎◌, inl, inr, Bool, true, false, Some, List, [], ◌∷◌, get_or, map, refl, sym, ap, subst, ◌∙◌, Contains}
 use Rattle.std.proofs.Common.{MatchBool}
 use Rattle.std.specs.Prelude.{slice_get, option_map}
 use Rattle.std.proofs.lemmas.Bool.{eq-eqb, ne_eqb}
@@ -16,13 +16,11 @@ use Rattle.ios_words.specs.declared.kinds.BlockKind.TheVariants as kinds
 use Rattle.ios_words.specs.Commands.{is_extended_block, ReadBy}
 use Rattle.ios_words.specs.Language.{rows}
 use Rattle.ios_config.specs.declared.commands.FileCommand.{FileCommand}
-use Rattle.ios_config.specs.Commands.{opened_by}
 use Rattle.ios_config.specs.Inserted.{MarkOpens, Opened}
 use Rattle.ios_config.specs.LineLists.{marks_in, AreCommandsIn}
-use Rattle.ios_config.proofs.AppendedLines.{numbered-at}
 use Rattle.ios_config.proofs.InsertedLines.{head-opens}
 use Rattle.line_edit_laws.specs.Sites.{IsOfBlock}
-use Rattle.line_edit_laws.proofs.Shifts.{RowOf, row-of, reads-once}
+use Rattle.line_edit_laws.proofs.Shifts.{RowOf, row-of, opens-once}
 use Rattle.patch_laws.proofs.FileParts.{one-line, rising}
 use Rattle.patch_laws.proofs.ReturnedLines.{row-indented}
 
@@ -35,16 +33,6 @@ pub mapped-at : {X Y : Type 0} (f : X → Y) (xs : List X) (k : ℕ) (y : Y) →
 mapped-at f [] k y at = absurd (none-some y at)
 mapped-at f (x ∷ xs) zero y at = (x, refl, same_Some (f x) y at)
 mapped-at f (x ∷ xs) (suc k) y at = mapped-at f xs k y at
-
--- a row opens one kind of block
-opens-once : (marks : List Mark) (number : ℕ) (a b : BlockKind) → MarkOpens marks number a → MarkOpens marks number b → a ≡ b
-opens-once marks number a b one two =
-    let (place, at, there) = numbered-at 1 marks number one.head one.at_number in
-    let (spot, on, here) = numbered-at 1 marks number two.head two.at_number in
-    let same : place ≡ spot = omega arith in
-    let head : one.head ≡ two.head = same_Some one.head two.head (sym there ∙ ap (slice_get marks) same ∙ here) in
-    let reads : ReadBy false two.head.words (rows kinds.Top) one.command = subst (λ (m : Mark). ReadBy false m.words (rows kinds.Top) one.command) head one.reads in
-    one.opens ∙ ap opened_by (reads-once false two.head.words (rows kinds.Top) one.command two.command reads two.reads) ∙ sym two.opens
 
 -- the row of a command, with what it says where it is read
 pub record CommandRow (text : List ℕ) (lines : Lines) (cs : List FileCommand) (c : FileCommand) : Type 0 where

@@ -29,13 +29,12 @@ use Rattle.line_edit_laws.specs.Sites.{Written, Single, Site, bytes_of, chunk_li
 use Rattle.patch_laws.specs.EditFiles.{IsEditedFile}
 use Rattle.patch_laws.specs.EditSiteLaws.{EditSitesAreThere, own_places}
 use Rattle.patch_laws.specs.EditSites.{entries_at, inner_entries, new_key, new_tops, put, singles}
-use Rattle.patch_laws.specs.EndLines.{AreNamed}
 use Rattle.patch_laws.specs.Fits.{row_line}
-use Rattle.patch_laws.specs.NewListSites.{IsNewName, list_chunks}
+use Rattle.patch_laws.specs.NewListSites.{list_chunks}
 use Rattle.patch_laws.specs.Sites.{HasSite, HasNone, HaveSites}
 use Rattle.patch_laws.specs.Written.{written_of}
 use Rattle.patch_laws.proofs.EditBusy.{number-command, after-command}
-use Rattle.patch_laws.proofs.EditEntries.{all-of, before-command}
+use Rattle.patch_laws.proofs.EditEntries.{before-command}
 use Rattle.patch_laws.proofs.EditLists.{none-at, of-append}
 use Rattle.patch_laws.proofs.NewListChunks.{new-chunk-lines, written-lines}
 use Rattle.patch_laws.proofs.RowLines.{of-number-here, of-number-other}
@@ -44,9 +43,6 @@ module _ (net : Network) (places : List Places) (chosen : List Edit) (router : â
     (file : IsEditedFile net places chosen router text lines cs) where
   abbrev own : Places
   own = own_places cs
-
-  pub are-named : AreNamed net chosen router
-  are-named named there = (all-of (IsNewName chosen) (named_lists net chosen router) file.names named there).name
 
   abbrev site : FileCommand â†’ Site
   site c = put net places own chosen router text lines (new_key lines) c

@@ -3,7 +3,7 @@ use Rattle.std.proofs.Common.{◌≡◌, ℕ, ◌+◌, ◌^◌, ◌<◌, ◌≤�
 use Rattle.std.proofs.Common.{ap, subst, ◌∙◌, arith, ⊎_elim, Contains, MatchBool}
 use Rattle.std.specs.Prelude.{option_map}
 use Rattle.std.specs.Option.{option_map_or}
-use Rattle.std.proofs.lemmas.Bool.{cases_Bool, false≢true, eqb-true, le-leb}
+use Rattle.std.proofs.lemmas.Bool.{cases_Bool, false≢true, eqb-true, le-leb, or_left, or_right}
 use Rattle.std.proofs.lemmas.Option.{same_Some, slice_get-map}
 use Rattle.ios_lines.specs.declared.line.Lines.{Lines}
 use Rattle.ios_lines.specs.Kinds.{is_head, is_mark, is_banner, is_indented, kind, kind_at, kind_within, opens_block, words_kind}
@@ -24,7 +24,6 @@ use Rattle.ios_words.proofs.Formed.{in_form}
 use Rattle.ios_words.proofs.ListLines.{list-lines-top}
 use Rattle.ios_words.proofs.PrefixNames.{prefix-names}
 use Rattle.ios_config.specs.declared.commands.FileCommand.{FileCommand}
-use Rattle.ios_config.specs.Commands.{opened_by}
 use Rattle.ios_config.specs.Groups as groups
 use Rattle.ios_config.specs.Inserted.{MarkOpens}
 use Rattle.ios_config.specs.LineLists.{marks_in, AreCommandsIn}
@@ -38,19 +37,12 @@ use Rattle.ios_config.specs.declared.settings.ListKind.TheVariants.{Extended, St
 use Rattle.ios_config.specs.declared.settings.ListText.{ListText}
 use Rattle.ios_config.specs.Texts as texts
 use Rattle.ios_config.specs.Texts.{config_of}
+use Rattle.ios_config.proofs.OwnBlocks.{never-top}
 use Rattle.patch_laws.specs.EditFiles.{HaveListLines}
 use Rattle.patch_laws.specs.ListsGrow.{list_begun}
 use Rattle.patch_laws.proofs.EditLists.{list-group}
 use Rattle.patch_laws.proofs.EditNumbers.{first-of, line-entry, lines-begun, prefix-entry, prefixes-begun}
 use Rattle.patch_laws.proofs.EditRows.{command-row}
-
-never-top : (command : Command) → opened_by command ≡ kinds.Top → ⊥
-never-top (commands.Interface name) e = absurd cc
-never-top (commands.RouterOspf number) e = absurd cc
-never-top (commands.RouterBgp number) e = absurd cc
-never-top (commands.ListBlock true name) e = absurd cc
-never-top (commands.ListBlock false name) e = absurd cc
-never-top _ e = absurd cc
 
 -- a line of a head's kind has words that open a block
 words-head : (indented : Bool) (ws : List (List ℕ)) → is_head (words_kind indented ws) ≡ true → opens_block ws ≡ true
@@ -105,21 +97,13 @@ lists-at-top lines cs stand c among name (inr part) = let (order, entry, is) = p
 from-true : (low high n : ℕ) → low ≤ n → n ≤ high → is_from low high n ≡ true
 from-true low high n one two = (let first = le-leb low n one in let second = le-leb n high two in λ i. first i && second i)
 
-or-left : (a b : Bool) → a ≡ true → (a || b) ≡ true
-or-left true b e = refl
-or-left false b e = absurd (false≢true e)
-
-or-right : (a b : Bool) → b ≡ true → (a || b) ≡ true
-or-right true b e = refl
-or-right false b e = e
-
 standard-true : (n : ℕ) → IsStandard n → is_standard n ≡ true
-standard-true n (inl low) = or-left (is_from 1 99 n) (is_from 1300 1999 n) (from-true 1 99 n low.0 low.1)
-standard-true n (inr high) = or-right (is_from 1 99 n) (is_from 1300 1999 n) (from-true 1300 1999 n high.0 high.1)
+standard-true n (inl low) = or_left (is_from 1 99 n) (is_from 1300 1999 n) (from-true 1 99 n low.0 low.1)
+standard-true n (inr high) = or_right (is_from 1 99 n) (is_from 1300 1999 n) (from-true 1300 1999 n high.0 high.1)
 
 extended-true : (n : ℕ) → IsExtended n → is_extended n ≡ true
-extended-true n (inl low) = or-left (is_from 100 199 n) (is_from 2000 2699 n) (from-true 100 199 n low.0 low.1)
-extended-true n (inr high) = or-right (is_from 100 199 n) (is_from 2000 2699 n) (from-true 2000 2699 n high.0 high.1)
+extended-true n (inl low) = or_left (is_from 100 199 n) (is_from 2000 2699 n) (from-true 100 199 n low.0 low.1)
+extended-true n (inr high) = or_right (is_from 100 199 n) (is_from 2000 2699 n) (from-true 2000 2699 n high.0 high.1)
 
 few-digits : (n : ℕ) → IsStandard n ⊎ IsExtended n → n < 2 ^ 64
 few-digits n (inl (inl low)) = let few = low.1 in omega arith
@@ -128,10 +112,7 @@ few-digits n (inr (inl low)) = let few = low.1 in omega arith
 few-digits n (inr (inr high)) = let few = high.1 in omega arith
 
 kind-false : (b : Bool) → (if b then Standard else Extended) ≡ Extended → b ≡ false
-kind-false true e = absurd (apart e)
-  where
-    apart : Standard ≡ Extended → ⊥
-    apart f = cc
+kind-false true e = let clash : Standard ≡ Extended = e in absurd cc
 kind-false false e = refl
 
 extended-by : (n : ℕ) → is_standard n ≡ false → is_extended n ≡ true → list_kind (Some n) ≡ Some true

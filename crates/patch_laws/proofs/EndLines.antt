@@ -40,9 +40,10 @@ use Rattle.edit_list.specs.NewLists.{named_lists}
 use Rattle.settings_edit_laws.specs.Plain.{said}
 use Rattle.settings_edit_laws.specs.Premises.{IsWritable}
 use Rattle.settings_edit_laws.specs.SettingsAfter.{face_with, process_with}
+use Rattle.settings_edit_laws.proofs.SessionFacts.{find_in}
 use Rattle.patch_laws.specs.EndLines.{IsProcessLine, ProcessLinesAreRead, GroupLinesAreFit, ProcessesGrow, FacesGrow}
 use Rattle.patch_laws.proofs.PlainWritten.{plain-fit}
-use Rattle.patch_laws.proofs.SessionReads.{inner_is, session_in}
+use Rattle.patch_laws.proofs.SessionReads.{inner_is}
 
 -- each thing that is picked
 picked-all : {E X : Type 0} (P : X → Type 0) (f : E → Option X) (es : List E) → ((e : E) (x : X) → Contains es e → f e ≡ Some x → P x) → AllByRecursion P (filter_map f es)
@@ -85,7 +86,7 @@ module _ (net : Network) (writable : IsWritable net) (fits : FitsProtocol net.pr
   turning-line place row at Bgp None is command e = absurd (none-some command e)
   turning-line place row at Bgp (Some s) is command e =
       subst (IsProcessLine Bgp block) (same_Some (commands.NeighborDown s.peer (not s.down)) command e)
-      (down-line s (session_in (λ (t : SessionRow). t.face.0 == place) net.sessions s is) (not s.down))
+      (down-line s (find_in (λ (t : SessionRow). t.face.0 == place) net.sessions s is).0 (not s.down))
 
   session-line : (place : ℕ) (command : Command) → session_command net place ≡ Some command → IsLine command
   session-line place command = by (slice_get net.faces place) refl
@@ -100,7 +101,7 @@ module _ (net : Network) (writable : IsWritable net) (fits : FitsProtocol net.pr
   runs-bgp face s at = by net.protocol fits
     where
       by : (p : Protocol) → FitsProtocol p net → p ≡ Bgp
-      by Ospf none = absurd (Contains-none s (subst (λ (l : List SessionRow). Contains l s) none (session_in (λ (t : SessionRow). t.face.0 == face.0) net.sessions s at)))
+      by Ospf none = absurd (Contains-none s (subst (λ (l : List SessionRow). Contains l s) none (find_in (λ (t : SessionRow). t.face.0 == face.0) net.sessions s at).0))
       by Bgp some = refl
 
   -- a line that binds a new route list
@@ -111,7 +112,7 @@ module _ (net : Network) (writable : IsWritable net) (fits : FitsProtocol net.pr
       by : (o : Option SessionRow) → session_at net face ≡ o → option_map (λ (s : SessionRow). commands.NeighborList s.peer name) o ≡ Some command → IsLine command
       by None at e = absurd (none-some command e)
       by (Some s) at e =
-          let small : s.peer < 2 ^ 32 = writable.peers s (session_in (λ (t : SessionRow). t.face.0 == face.0) net.sessions s at) in
+          let small : s.peer < 2 ^ 32 = writable.peers s (find_in (λ (t : SessionRow). t.face.0 == face.0) net.sessions s at).0 in
           let line = read-plain kinds.Bgp (commands.NeighborList s.peer name) tt is small in
           let inner = inner_is kinds.Bgp block (commands.NeighborList s.peer name) line line.kind refl (record { stands = refl; excludes = refl; unnamed = refl }) in
           let whole : IsProcessLine Bgp block (commands.NeighborList s.peer name) =

@@ -46,9 +46,10 @@ pub mod EditRising
 pub mod EditGrowth
 pub mod EditFronts
 pub mod EditFrontLines
-pub mod EditListsShow
 pub mod EditUnnumbered
 pub mod EditCounted
+pub mod EditKinds
+pub mod EditListsShow
 pub mod EditNewNumbers
 pub mod EditNumbered
 pub mod EditedFiles

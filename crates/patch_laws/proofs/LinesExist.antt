@@ -1,7 +1,7 @@
 -- Each text that can be cut has lines.
 use Rattle.std.proofs.Common.{◌≡◌, ◌≢◌, ℕ, zero, suc, ◌+◌, ◌-◌, ◌<◌, ◌≤◌, ◌==◌, inl, inr, Bool, true, false, not, List, [], ◌∷◌, map, length, drop, slice_get, slice_index, slice_range, Some}
 use Rattle.std.proofs.Common.{None, refl, sym, ap, subst, ◌∙◌, arith, ⊎_elim, All}
-use Rattle.std.proofs.lemmas.Bool.{cases_lt, cases_eq, cases_Bool, eqb-true, eqb-false}
+use Rattle.std.proofs.lemmas.Bool.{cases_lt, cases_eq, cases_Bool, eqb-true, eqb-false, false≢true, not-true, not-false}
 use Rattle.std.proofs.lemmas.List.{drop_all}
 use Rattle.std.proofs.lemmas.List.Elements.{All-nil, All-cons}
 use Rattle.std.proofs.lemmas.Option.{none-some, same_Some}
@@ -44,14 +44,6 @@ found p at to (suc n) e = by (p at) refl (found p (suc at) to n (omega arith))
           before = λ k from to. ⊎_elim (λ (same : k ≡ at). ap p same ∙ is) (λ (other : k ≡ at → ⊥). rest.before k (omega arith) to) (cases_eq k at);
           there = rest.there;
         }
-
-not-false : (b : Bool) → not b ≡ false → b ≡ true
-not-false true is = refl
-not-false false is = sym is
-
-not-true : (b : Bool) → not b ≡ true → b ≡ false
-not-true true is = sym is
-not-true false is = refl
 
 differ : {A : Type 0} → (b : Bool) → b ≡ true → b ≡ false → A
 differ b one two = let clash : true ≡ false = sym one ∙ two in absurd cc
@@ -216,7 +208,7 @@ module _ (text : List ℕ) (none : (number : ℕ) → ¬ HasOrphanAt text number
         lines = refl;
         banner = refl;
         block = λ head heads. let low : head < 0 = heads.before in omega arith;
-        first = λ some. absurd (none-is some);
+        first = λ some. absurd (false≢true some);
         no_orphan = λ place low. absurd (omega arith);
       } in
       let rest = rest-from (length text) 0 (record { count = 0; block = 0; banner = None; first = 0 }) stands (omega arith) in
@@ -230,9 +222,6 @@ module _ (text : List ℕ) (none : (number : ℕ) → ¬ HasOrphanAt text number
               omega arith in subst (λ (n : ℕ). IsRow text n line) same (rest.each place line is);
         };
       }
-    where
-      none-is : {A : Type 0} → false ≡ true → A
-      none-is h = absurd cc
 
 -- no line is an orphan where none is the first one
 pub no_orphans : (lines : List (List ℕ)) → ((n : ℕ) → ¬ IsFirstOrphan lines n) → (n k : ℕ) → k < n → ¬ IsOrphan lines k

@@ -129,7 +129,7 @@ one-chunk chosen number key later (Packet face) name is high fresh =
         reads = plain-reads kinds.Top (commands.ListBlock true name) head;
         within = kinds.Extended;
         opens = refl;
-        known = λ same. absurd (apart same);
+        known = λ same. (let clash : kinds.Extended ≡ kinds.Inert = same in absurd cc);
         lines = packet-lines (new_classes chosen face.0) (is.writable face.0);
         closes = closing-line.kind;
         high = high;
@@ -137,9 +137,6 @@ one-chunk chosen number key later (Packet face) name is high fresh =
       },
       tt,
     )
-  where
-    apart : kinds.Extended ≡ kinds.Inert → ⊥
-    apart e = absurd cc
 
 pub new-chunks-good : NewListsAreChunks
 new-chunks-good chosen number key later [] all high clear = tt

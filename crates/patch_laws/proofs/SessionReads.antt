@@ -1,9 +1,6 @@
 -- A written line of a process is one of its block; and numbers of entries rise as those of lists that are the same but for lines.
-use Rattle.std.proofs.Common.{◌≡◌, ℕ, ◌+◌, Bool, true, false, Some, List, [], ◌∷◌, map, refl, sym, ◌∙◌, ap, subst, find, cond}
-use Rattle.std.specs.Prelude.{Contains}
+use Rattle.std.proofs.Common.{◌≡◌, ℕ, ◌+◌, false, List, map, refl, sym, ◌∙◌, ap, subst}
 use Rattle.std.specs.List.{AllZip}
-use Rattle.std.proofs.lemmas.Option.{none-some, same_Some}
-use Rattle.arc_base.proofs.Items.{Contains-head, Contains-tail}
 use Rattle.ios_lines.specs.Kinds.{IsInner}
 use Rattle.ios_words.specs.Plain.{plain_line, IsReadBack}
 use Rattle.ios_words.specs.declared.commands.Command.{Command}
@@ -26,14 +23,6 @@ use Rattle.settings_edit_laws.proofs.Untouched.{map_same}
 -- two lists that are the same after a map go together
 maps_agree_one : {X Z : Type 0} (f : X → Z) (xs ys : List X) → map f ys ≡ map f xs → AllZip (λ x y. f y ≡ f x) xs ys
 maps_agree_one {X} {Z} f xs ys e = maps_agree f (λ (z : Z). z) f xs ys (e ∙ sym (map_same (λ (z : Z). z) (λ z. refl) (map f xs)))
-
-pub session_in : {X : Type 0} (p : X → Bool) (xs : List X) (x : X) → find p xs ≡ Some x → Contains xs x
-session_in p [] x e = absurd (none-some x e)
-session_in {X} p (y ∷ xs) x e = by (p y) e (session_in p xs x)
-  where
-    by : (b : Bool) → cond b (Some y) (find p xs) ≡ Some x → (find p xs ≡ Some x → Contains xs x) → Contains (y ∷ xs) x
-    by true e later = subst (λ (z : X). Contains (y ∷ xs) z) (same_Some y x e) (Contains-head y xs)
-    by false e later = Contains-tail y x xs (later e)
 
 -- a written line of a process is one of its block
 pub inner_is : (within : BlockKind) (block : ℕ) (command : Command) → IsReadBack within command → IsInner (plain_line within command) → part_in block command ≡ Block block → IsQuiet command →

@@ -47,7 +47,7 @@ use Rattle.line_patcher.specs.Written.{line_of}
 use Rattle.line_patcher.proofs.Tables.{few_put}
 use Rattle.settings_edit_laws.specs.Premises.{IsWritable}
 use Rattle.patch_laws.specs.NewListSites.{IsNewName}
-use Rattle.patch_laws.proofs.SessionReads.{session_in}
+use Rattle.settings_edit_laws.proofs.SessionFacts.{find_in}
 use Rattle.patch_size_laws.proofs.Keyed.{total, total-append, total-flat, total-map, total-le, total-times, total-ones, picked-few, zip-few, flat-all}
 use Rattle.patch_size_laws.proofs.LineSizes.{IsSmallOrder, entry-line-few, list-line-few, prefix-line-few, list-head-few, group-few, neighbor-list-few, passive-few, neighbor-few}
 use Rattle.patch_size_laws.proofs.RowSizes.{cost_of, put, IsSmall}
@@ -80,13 +80,13 @@ zip-all P [] ys all = tt
 zip-all P (x ∷ xs) [] all = tt
 zip-all P (x ∷ xs) (y ∷ ys) all = (all.0, zip-all P xs ys all.1)
 
+times-le : (s a : ℕ) → s ≤ 10 → s * a ≤ 10 * a
+times-le s zero low = omega arith
+times-le s (suc a) low = omega (arith, times-le s a low, low)
+
 order-small : (b : Bool) (step at : ℕ) → step ≤ 10 → at ≤ 8192 → IsSmallOrder (if b then Some (step * at) else None)
 order-small false step at low few = tt
 order-small true step at low few = let least : step * at ≤ 10 * at = times-le step at low in omega (arith, least, few)
-  where
-    times-le : (s a : ℕ) → s ≤ 10 → s * a ≤ 10 * a
-    times-le s zero low = omega arith
-    times-le s (suc a) low = omega (arith, times-le s a low, low)
 
 -- what the lines of commands cost
 abbrev price : Command → ℕ
@@ -132,7 +132,7 @@ module _ (net : Network) (valid : IsValid net) (writable : IsWritable net) (chos
 
       of-protocol : (p : Protocol) (row : FaceRow) → length row.name ≤ 64 → turning_command p row (session_at net (record { 0 = face })) ≡ Some command → price command ≤ 512
       of-protocol Ospf row short e = omega (arith, ap price (same_Some (commands.Passive (not row.passive) (Some row.name)) command e), passive-few (not row.passive) row.name short)
-      of-protocol Bgp row short e = of-session (session_at net (record { 0 = face })) (λ s at. writable.peers s (session_in (λ (t : SessionRow). t.face.0 == face) net.sessions s at)) e
+      of-protocol Bgp row short e = of-session (session_at net (record { 0 = face })) (λ s at. writable.peers s (find_in (λ (t : SessionRow). t.face.0 == face) net.sessions s at).0) e
 
       of-row : (o : Option FaceRow) → slice_get net.faces face ≡ o →
           option_and_then (λ (row : FaceRow). turning_command net.protocol row (session_at net (record { 0 = face }))) o ≡ Some command → price command ≤ 512
@@ -246,7 +246,7 @@ module _ (net : Network) (valid : IsValid net) (writable : IsWritable net) (chos
             arith,
             some,
             route-lines-few name (new_prefixes chosen face.0) short (omega (arith, few_put new_route_change chosen face.0, few)),
-            neighbor-list-few s.peer name (writable.peers s (session_in (λ (t : SessionRow). t.face.0 == face.0) net.sessions s at)) short,
+            neighbor-list-few s.peer name (writable.peers s (find_in (λ (t : SessionRow). t.face.0 == face.0) net.sessions s at).0) short,
           )
   one-named faces (Packet face) name short some = by (slice_get faces face.0)
     where
@@ -322,10 +322,6 @@ module _ (net : Network) (valid : IsValid net) (writable : IsWritable net) (chos
   of-numbers : (place : ListPlace) (word step count : ℕ) → step ≤ 10 → count ≤ length chosen → HasRoomAt place → AllByRecursion IsSmallAt (new_numbers place word step count)
   of-numbers place word step count low counted room = by place.numbered
     where
-      times-le : (s a : ℕ) → s ≤ 10 → s * a ≤ 10 * a
-      times-le s zero l = omega arith
-      times-le s (suc a) l = omega (arith, times-le s a l, l)
-
       by : (b : Bool) → AllByRecursion IsSmallAt (if b then map (new_number word step count) (enumerate_from 1 place.entries) else [])
       by false = tt
       by true = counted-all IsSmallAt (new_number word step count) 1 (length place.entries) place.entries

@@ -18,7 +18,7 @@ use Rattle.edit_list.specs.declared.list_kinds.NewList.TheVariants.{Route, Packe
 use Rattle.edit_list.specs.Changes.{list_classes, list_prefixes, new_classes, new_prefixes, new_packet_change, new_route_change, packet_list_change, route_list_change}
 use Rattle.edit_list.specs.NewLists.{new_lists, new_lists_of, new_packet_list, new_route_list}
 use Rattle.arc_base.specs.Numbered.{is_empty, of_number, placed}
-use Rattle.line_patcher.specs.EntryLines.{edited_by, edited_packet_list, edited_route_list, edited_packet_lists, edited_route_lists}
+use Rattle.line_patcher.specs.EntryLines.{edited_by, edited_packet_lists, edited_route_lists}
 use Rattle.line_patcher.specs.SessionLines.{turned_face, turned_faces}
 use Rattle.patch_size_laws.proofs.Keyed.{total, total-append, total-le, total-map, total-ones, picked-few, zip-few, Apart, Other, apart-range, keyed-few, picked-all, numbered-all}
 use Rattle.patch_size_laws.proofs.Costs.{new_size, weight}
@@ -139,12 +139,14 @@ module _ (net : Network) (valid : IsValid net) (chosen : List Edit) where
         total-add packets (λ r. routes r + news r) ks,
         total-add routes news ks,
         lengths-few (filter_map (turned_face net) chosen) ks apart,
-        keyed-few g (filter_map (edited_packet_list chosen) lists) ks apart,
-        picked-few (edited_packet_list chosen) (λ (y : ℕ × ℕ). g y.1) (λ (p : ℕ × PacketList). g p.0) lists (edited-few (λ (l : PacketList). l.router.0) packet_list_change),
+        keyed-few g (filter_map (edited_by (λ (l : PacketList). l.router.0) packet_list_change chosen) lists) ks apart,
+        picked-few (edited_by (λ (l : PacketList). l.router.0) packet_list_change chosen) (λ (y : ℕ × ℕ). g y.1) (λ (p : ℕ × PacketList). g p.0) lists
+            (edited-few (λ (l : PacketList). l.router.0) packet_list_change),
         zip-few g (range_with_len 0 (length net.packet_lists)) net.packet_lists,
         lengths-few (filter_map packet_list_change chosen) (range_with_len 0 (length net.packet_lists)) (apart-range 0 (length net.packet_lists)),
-        keyed-few h (filter_map (edited_route_list chosen) filters) ks apart,
-        picked-few (edited_route_list chosen) (λ (y : ℕ × ℕ). h y.1) (λ (p : ℕ × RouteList). h p.0) filters (edited-few (λ (l : RouteList). l.router.0) route_list_change),
+        keyed-few h (filter_map (edited_by (λ (l : RouteList). l.router.0) route_list_change chosen) filters) ks apart,
+        picked-few (edited_by (λ (l : RouteList). l.router.0) route_list_change chosen) (λ (y : ℕ × ℕ). h y.1) (λ (p : ℕ × RouteList). h p.0) filters
+            (edited-few (λ (l : RouteList). l.router.0) route_list_change),
         zip-few h (range_with_len 0 (length net.route_lists)) net.route_lists,
         lengths-few (filter_map route_list_change chosen) (range_with_len 0 (length net.route_lists)) (apart-range 0 (length net.route_lists)),
         keyed-few size (new_lists net chosen) ks apart,

@@ -1,9 +1,8 @@
 -- How long router files are, each and together.
 use Rattle.std.specs.Prelude.{ℕ, ◌≤◌, Bool, List, length, All}
 use Rattle.std.specs.List.{sum_by}
-use Rattle.arc_base.specs.declared.limits.TheConstants.{ALL_EDITED_FILES_LIMIT}
+use Rattle.arc_base.specs.declared.limits.TheConstants.{ALL_EDITED_FILES_LIMIT, ROUTER_FILE_LIMIT}
 use Rattle.arc_base.specs.declared.limits.TheConstants.{ALL_ROUTER_FILES_LIMIT, EDIT_LIMIT}
-use Rattle.arc_base.specs.declared.limits.TheConstants.{ROUTER_FILE_LIMIT}
 use Rattle.net_model.specs.declared.policies.Document.{Document}
 use Rattle.net_build.specs.declared.built.Built.{Built}
 use Rattle.edit_list.specs.declared.edit_kinds.Edit.{Edit}

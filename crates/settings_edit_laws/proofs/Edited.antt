@@ -3,7 +3,6 @@ use Rattle.std.proofs.Common.{◌≡◌, ℕ, zero, suc, ◌+◌, false, Option,
 use Rattle.std.specs.Prelude.{Contains, IsSome, slice_get}
 use Rattle.std.specs.Option.{option_map_or}
 use Rattle.std.specs.List.{AllZip, enumerate_from}
-use Rattle.std.proofs.lemmas.Bool.{false≢true}
 use Rattle.std.proofs.lemmas.Option.{none-some, same_Some}
 use Rattle.arc_base.specs.declared.place.Face.{Face}
 use Rattle.arc_base.proofs.Items.{Contains-head, Contains-tail, Contains-none, Contains-map, Contains-piece}
@@ -32,6 +31,7 @@ use Rattle.edit_list.specs.Changes.{new_classes, new_prefixes}
 use Rattle.edit_list.specs.NewLists.{names_of, IsNewList}
 use Rattle.arc_base.specs.Numbered.{is_empty}
 use Rattle.network_edit_laws.proofs.Changed.{packet_new_in, route_new_in}
+use Rattle.network_edit_laws.proofs.Told.{some_item}
 use Rattle.edit_list.proofs.RowFacts.{row_was, row_now}
 use Rattle.arc_base.specs.declared.prefix.Prefix.{Prefix}
 use Rattle.settings_edit_laws.specs.Premises.{AreFitting}
@@ -70,16 +70,11 @@ enumerated {X} n (suc k) (y ∷ xs) x e =
     let place : n + 1 + k ≡ n + suc k = omega arith in
     Contains-tail (n, y) (n + suc k, x) (enumerate_from (n + 1) xs) (subst (λ (m : ℕ). Contains (enumerate_from (n + 1) xs) (m, x)) place (enumerated (n + 1) k xs x e))
 
--- something that is not empty has an item
-pub filled_has : {X : Type 0} (xs : List X) → is_empty xs ≡ false → (x : X) × Contains xs x
-filled_has [] e = absurd (false≢true (sym e))
-filled_has (x ∷ xs) e = (x, Contains-head x xs)
-
 -- a new list has an edit that makes it
 pub packet_edit_there : (chosen : List Edit) (place : ℕ) → is_empty (new_classes chosen place) ≡ false →
     (face : Face) × (class : Class) × Contains chosen (edits.PacketNew face class) × (face.0 ≡ place)
 packet_edit_there chosen place filled =
-    let c = filled_has (new_classes chosen place) filled in
+    let c = some_item (new_classes chosen place) filled in
     (record { 0 = place }, c.0, packet_new_in chosen (record { 0 = place }) c.0 c.1, refl)
 
 -- a class in a new list has an edit that puts it there
@@ -89,7 +84,7 @@ packet_edit_of chosen place class there = (record { 0 = place }, packet_new_in c
 pub route_edit_there : (chosen : List Edit) (place : ℕ) → is_empty (new_prefixes chosen place) ≡ false →
     (face : Face) × (prefix : Prefix) × Contains chosen (edits.RouteNew face prefix) × (face.0 ≡ place)
 route_edit_there chosen place filled =
-    let p = filled_has (new_prefixes chosen place) filled in
+    let p = some_item (new_prefixes chosen place) filled in
     (record { 0 = place }, p.0, route_new_in chosen (record { 0 = place }) p.0 p.1, refl)
 
 module _ (doc : Document) (net : Network) (old new : List Config) (chosen : List Edit) (g : AreEdited doc net old new chosen) where

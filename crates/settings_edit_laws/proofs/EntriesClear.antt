@@ -45,14 +45,7 @@ module _ (net : Network) (chosen : List Edit) (router : ℕ) where
             (λ (p : Prefix). route_line list.name (opposite_route_entry (route_entries list) p)),
         few_picked (prefix_for net router list.name) chosen,
       )
-  few_front list kinds.Extended =
-      omega (
-        arith,
-        length-map (filter_map (class_for net router list.name) chosen)
-            (λ (c : Class). packet_command list.form list.name None (opposite_packet_entry (packet_entries list) c)),
-        few_picked (class_for net router list.name) chosen,
-      )
-  few_front list kinds.Standard =
+  few_front list other =
       omega (
         arith,
         length-map (filter_map (class_for net router list.name) chosen)

@@ -1,19 +1,16 @@
 -- The rows of interfaces after the edits are those of the files after them.
-use Rattle.std.proofs.Common.{◌≡◌, ℕ, ◌*◌, ◌||◌, inl, inr, Bool, true, false, not, Option, Some, None, List, length, map, refl, sym, ◌∙◌, ap, subst, unwrap_or, IsTrue, ◌↔◌, if◌then◌else◌}
-use Rattle.std.specs.Prelude.{Any, Contains, IsSome, IsSomeAnd, MatchBool, is_some, slice_get, option_map}
+use Rattle.std.proofs.Common.{◌≡◌, ℕ, ◌*◌, inl, inr, Bool, true, false, not, Option, Some, None, List, length, map, refl, sym, ◌∙◌, ap, subst, unwrap_or, IsTrue, ◌↔◌, if◌then◌else◌}
+use Rattle.std.specs.Prelude.{Any, Contains, IsSome, IsSomeAnd, is_some, slice_get, option_map}
 use Rattle.std.specs.Option.{option_or}
 use Rattle.std.specs.List.{AllZip}
 use Rattle.std.proofs.lemmas.Option.{same_Some}
-use Rattle.arc_base.specs.declared.place.ListId.{ListId}
 use Rattle.arc_base.specs.declared.prefix.Prefix.{Prefix}
 use Rattle.arc_base.proofs.Items.{from_map, Contains-map}
-use Rattle.net_model.specs.declared.lists.PacketList.{PacketList}
 use Rattle.net_model.specs.declared.policies.Document.{Document}
 use Rattle.net_model.specs.declared.rows.FaceRow.{FaceRow}
 use Rattle.net_model.specs.declared.rows.Network.{Network}
 use Rattle.net_model.specs.declared.rows.Protocol.{Protocol}
 use Rattle.net_model.specs.declared.rows.Protocol.TheVariants.{Ospf, Bgp}
-use Rattle.net_model.proofs.Readings.{item_at_place}
 use Rattle.ios_words.specs.declared.commands.Command.{Command}
 use Rattle.ios_words.specs.declared.commands.Command.TheVariants as commands
 use Rattle.ios_config.specs.declared.settings.Config.{Config}
@@ -30,16 +27,14 @@ use Rattle.edit_list.specs.declared.list_kinds.NewList.TheVariants as lists
 use Rattle.edit_list.specs.Changes.{new_classes}
 use Rattle.edit_list.specs.NewLists.{IsNewList}
 use Rattle.arc_base.specs.Numbered.{is_empty}
-use Rattle.edit_list.specs.After.{IsAfter, IsFaceAfter, StaysBound, PacketListMoves, IsNewPacketList, edited_packet_list}
-use Rattle.edit_space.proofs.ListKinds.{one_router, packets}
+use Rattle.edit_list.specs.After.{IsAfter, IsFaceAfter}
+use Rattle.edit_space.proofs.ListKinds.{packets}
 use Rattle.edit_list.proofs.RowFacts.{row_was}
-use Rattle.settings_edit_laws.specs.Additions.{new_inbound}
 use Rattle.settings_edit_laws.specs.SettingsAfter.{AreSettingsAfter}
-use Rattle.settings_edit_laws.proofs.Bound.{key_at, stays_placed}
-use Rattle.settings_edit_laws.proofs.Edited.{AreEdited, not_new, face_row}
+use Rattle.settings_edit_laws.proofs.Bound.{flag_after, stays_placed, bound_after}
+use Rattle.settings_edit_laws.proofs.Edited.{AreEdited, face_row}
 use Rattle.settings_edit_laws.proofs.Inbound.{inbound_none, inbound_new}
 use Rattle.settings_edit_laws.proofs.Lines.{IsAdded, commands_of, same_said, command_was, command_stays}
-use Rattle.settings_edit_laws.proofs.NewNames.{one_name}
 use Rattle.settings_edit_laws.proofs.Pairs.{any_of, of_any}
 use Rattle.settings_edit_laws.proofs.Pairs.{zip_from, zip_length}
 use Rattle.settings_edit_laws.proofs.Said.{passive_now}
@@ -85,33 +80,9 @@ some_and : {X : Type 0} (P Q : X → Type 0) → ((x : X) → P x → Q x) → (
 some_and P Q f None h = h
 some_and P Q f (Some x) h = f x h
 
-or_right : (b : Bool) → (b || false) ≡ b
-or_right true = refl
-or_right false = refl
-
-or_true : (b : Bool) → (b || true) ≡ true
-or_true true = refl
-or_true false = refl
-
 module _ (doc : Document) (net : Network) (old new : List Config) (chosen : List Edit) (g : AreEdited doc net old new chosen) (after : Network) (is : IsAfter net chosen after) where
   abbrev keys : List (ℕ × List ℕ)
   keys = map packet_list_key after.packet_lists
-
-  -- a list of an old name was there before
-  pub packet_was_there : (router : ℕ) (c : Config) (name : List ℕ) → slice_get old router ≡ Some c → IsListName c name → Contains keys (router, name) →
-      Contains (map packet_list_key net.packet_lists) (router, name)
-  packet_was_there router c name at listed there =
-      let r = from_map packet_list_key after.packet_lists (router, name) there in
-      elim ((is.packet_lists r.0).0 r.1) [
-        | inl (place, was, at_place, same) ↦
-            subst (λ (k : ℕ × List ℕ). Contains (map packet_list_key net.packet_lists) k) (ap packet_list_key (sym same) ∙ r.2)
-            (Contains-map packet_list_key net.packet_lists was (item_at_place net.packet_lists place was at_place))
-        | inr (face, n) ↦
-            let router_is : r.0.router.0 ≡ router = ap (λ (k : ℕ × List ℕ). k.0) r.2 in
-            let name_is : r.0.name ≡ name = ap (λ (k : ℕ × List ℕ). k.1) r.2 in
-            absurd (not_new doc net old new chosen g router c name at listed (lists.Packet face)
-            (subst (λ (m : List ℕ). IsNewList net chosen router (lists.Packet face) m) name_is (subst (λ (m : ℕ). IsNewList net chosen m (lists.Packet face) r.0.name) router_is n.named)))
-      ]
 
   module _ (k : ℕ) (s t : Site) (was now : FaceRow) (at_s : slice_get (sites old) k ≡ Some s) (at_was : slice_get net.faces k ≡ Some was)
       (sa : IsSiteAfter net chosen s t) (fr : IsFaceRow net.protocol (ends_of doc.links) (map packet_list_key net.packet_lists) s was) (fa : IsFaceAfter net chosen after k was now) where
@@ -178,71 +149,34 @@ module _ (doc : Document) (net : Network) (old new : List Config) (chosen : List
         let named = sa.stays.name in
         λ i. unwrap_or (costs i) (cost_at (unwrap_or (reference i) DEFAULT_REFERENCE * 1000) (unwrap_or (widths i) (default_bandwidth (face_kind (named i)))))
 
+    in_stays : is_empty (new_classes chosen k) ≡ true → value t.face.list_in ≡ value s.face.list_in
+    in_stays e = sa.list_in ∙ ap (λ o. option_or o (value s.face.list_in)) (inbound_none net g.valid g.small chosen s.router s.face.name k was at_was own fr.name e)
+
+    in_made : is_empty (new_classes chosen k) ≡ false → (name : List ℕ) × IsNewList net chosen s.router (lists.Packet (record { 0 = k })) name × (value t.face.list_in ≡ Some name)
+    in_made e =
+        let n = inbound_new net g.valid g.small chosen s.router s.face.name k was at_was own fr.name e in
+        (n.0, n.1, sa.list_in ∙ ap (λ o. option_or o (value s.face.list_in)) n.2)
+
     bound_flag : now.bound_in ≡ is_some t.face.list_in
-    bound_flag = fa.bound_in ∙ by (is_empty (new_classes chosen k)) refl ∙ sym (is_some_value t.face.list_in ∙ ap is_some sa.list_in)
-      where
-        old_flag : was.bound_in ≡ is_some (value s.face.list_in)
-        old_flag = fr.bound_in ∙ is_some_value s.face.list_in
+    bound_flag =
+        fa.bound_in ∙ flag_after (IsNewList net chosen s.router (lists.Packet (record { 0 = k }))) (is_empty (new_classes chosen k)) was.bound_in (value s.face.list_in) (value t.face.list_in)
+        (fr.bound_in ∙ is_some_value s.face.list_in) in_stays in_made ∙ sym (is_some_value t.face.list_in)
 
-        by : (b : Bool) → is_empty (new_classes chosen k) ≡ b →
-            (was.bound_in || not (is_empty (new_classes chosen k))) ≡ is_some (option_or (new_inbound net chosen s.router s.face.name) (value s.face.list_in))
-        by true e =
-            ap (λ c. was.bound_in || not c) e ∙ or_right was.bound_in ∙ old_flag ∙
-            sym (ap (λ o. is_some (option_or o (value s.face.list_in))) (inbound_none net g.valid g.small chosen s.router s.face.name k was at_was own fr.name e))
-        by false e =
-            let n = inbound_new net g.valid g.small chosen s.router s.face.name k was at_was own fr.name e in
-            ap (λ c. was.bound_in || not c) e ∙ or_true was.bound_in ∙ sym (ap (λ o. is_some (option_or o (value s.face.list_in))) n.2)
-
-    bound_names : (bound : Option (List ℕ)) → ((name : List ℕ) → bound ≡ Some name → BindsPacketList name s.face) → (name : List ℕ) → bound ≡ Some name →
-        Contains keys (s.router, name) → Contains (map packet_list_key net.packet_lists) (s.router, name)
-    bound_names bound binds name e there =
-        packet_was_there s.router s.config name file.file_at (inr (inl (any_of (BindsPacketList name) s.config.faces s.face file.listed (binds name e)))) there
+    list_name : (name : List ℕ) → BindsPacketList name s.face → IsListName s.config name
+    list_name name binds = inr (inl (any_of (BindsPacketList name) s.config.faces s.face file.listed binds))
 
     list_in_place : IsPlaceAmong keys t.router (value t.face.list_in) now.list_in
     list_in_place =
         subst (λ (r : ℕ). IsPlaceAmong keys r (value t.face.list_in) now.list_in) (sym sa.router)
-        (subst (λ (o : Option (List ℕ)). IsPlaceAmong keys s.router o now.list_in) (sym sa.list_in) (by (is_empty (new_classes chosen k)) refl fa.list_in))
-      where
-        new_place : (n : Option ListId) (given : List ℕ) → IsNewList net chosen s.router (lists.Packet (record { 0 = k })) given →
-            IsSomeAnd n (λ id. IsSomeAnd (slice_get after.packet_lists id.0) (IsNewPacketList net chosen (record { 0 = k }))) → IsPlaceAmong keys s.router (Some given) n
-        new_place None given made h = absurd h
-        new_place (Some id) given made h = inner (slice_get after.packet_lists id.0) refl h
-          where
-            inner : (o : Option PacketList) → slice_get after.packet_lists id.0 ≡ o → IsSomeAnd o (IsNewPacketList net chosen (record { 0 = k })) → slice_get keys id.0 ≡ Some (s.router, given)
-            inner None e h = absurd h
-            inner (Some l) e h =
-                let router_is : l.router.0 ≡ s.router = one_router (packets net chosen g.valid) l.router.0 s.router (record { 0 = k }) l.name given h.named made in
-                let name_is : l.name ≡ given =
-                one_name net g.valid g.small chosen s.router (lists.Packet (record { 0 = k })) l.name given
-                (subst (λ (r : ℕ). IsNewList net chosen r (lists.Packet (record { 0 = k })) l.name) router_is h.named) made in
-                key_at packet_list_key net.packet_lists after.packet_lists (edited_packet_list chosen) (λ j m. refl) after.packet_lists id.0 l (s.router, given) e (λ i. (router_is i, name_is i))
-
-        by : (b : Bool) → is_empty (new_classes chosen k) ≡ b → MatchBool (is_empty (new_classes chosen k)) (StaysBound (PacketListMoves net chosen after) was.list_in now.list_in)
-            (IsSomeAnd now.list_in (λ id. IsSomeAnd (slice_get after.packet_lists id.0) (IsNewPacketList net chosen (record { 0 = k })))) →
-            IsPlaceAmong keys s.router (option_or (new_inbound net chosen s.router s.face.name) (value s.face.list_in)) now.list_in
-        by true e h =
-            let h' : MatchBool true (StaysBound (PacketListMoves net chosen after) was.list_in now.list_in)
-            (IsSomeAnd now.list_in (λ id. IsSomeAnd (slice_get after.packet_lists id.0) (IsNewPacketList net chosen (record { 0 = k })))) =
-            subst (λ (c : Bool). MatchBool c (StaysBound (PacketListMoves net chosen after) was.list_in now.list_in)
-            (IsSomeAnd now.list_in (λ id. IsSomeAnd (slice_get after.packet_lists id.0) (IsNewPacketList net chosen (record { 0 = k }))))) e h in
-            subst (λ (o : Option (List ℕ)). IsPlaceAmong keys s.router (option_or o (value s.face.list_in)) now.list_in)
-            (sym (inbound_none net g.valid g.small chosen s.router s.face.name k was at_was own fr.name e))
-            (stays_placed packet_list_key net.packet_lists after.packet_lists (edited_packet_list chosen) (λ j m. refl) s.router (value s.face.list_in) was.list_in now.list_in
-            (bound_names (value s.face.list_in) (λ n b. inl b)) h' fr.list_in)
-        by false e h =
-            let h' : MatchBool false (StaysBound (PacketListMoves net chosen after) was.list_in now.list_in)
-            (IsSomeAnd now.list_in (λ id. IsSomeAnd (slice_get after.packet_lists id.0) (IsNewPacketList net chosen (record { 0 = k })))) =
-            subst (λ (c : Bool). MatchBool c (StaysBound (PacketListMoves net chosen after) was.list_in now.list_in)
-            (IsSomeAnd now.list_in (λ id. IsSomeAnd (slice_get after.packet_lists id.0) (IsNewPacketList net chosen (record { 0 = k }))))) e h in
-            let n = inbound_new net g.valid g.small chosen s.router s.face.name k was at_was own fr.name e in
-            subst (λ (o : Option (List ℕ)). IsPlaceAmong keys s.router (option_or o (value s.face.list_in)) now.list_in) (sym n.2) (new_place now.list_in n.0 n.1 h')
+        (bound_after doc net old new chosen g (packets net chosen g.valid) after.packet_lists is.packet_lists s.router s.config file.file_at (record { 0 = k }) (is_empty (new_classes chosen k))
+        (value s.face.list_in) (value t.face.list_in) was.list_in now.list_in in_stays in_made (λ name b. list_name name (inl b)) fa.list_in fr.list_in)
 
     list_out_place : IsPlaceAmong keys t.router (value t.face.list_out) now.list_out
     list_out_place =
         subst (λ (r : ℕ). IsPlaceAmong keys r (value t.face.list_out) now.list_out) (sym sa.router)
         (subst (λ (o : Option (List ℕ)). IsPlaceAmong keys s.router o now.list_out) (sym sa.stays.list_out)
-        (stays_placed packet_list_key net.packet_lists after.packet_lists (edited_packet_list chosen) (λ j m. refl) s.router (value s.face.list_out) was.list_out now.list_out
-        (bound_names (value s.face.list_out) (λ n b. inr b)) fa.list_out fr.list_out))
+        (stays_placed doc net old new chosen g (packets net chosen g.valid) after.packet_lists is.packet_lists s.router s.config file.file_at (value s.face.list_out) was.list_out now.list_out
+        (λ name b. list_name name (inr b)) fa.list_out fr.list_out))
 
     enabled_same : now.enabled ≡ was.enabled
     enabled_same = ap (λ (f : FaceRow). f.enabled) fa.same

@@ -176,18 +176,16 @@ module _ (doc : Document) (net : Network) (old new : List Config) (chosen : List
   kind_stays : (router : ℕ) (o n : Option ProcessText) → ProcessAfter net chosen router o n →
       option_map (λ (p : ProcessText). protocol_of_kind p.kind) n ≡ option_map (λ (p : ProcessText). protocol_of_kind p.kind) o
   kind_stays router None None h = refl
-  kind_stays router None (Some q) h = absurd h
-  kind_stays router (Some p) None h = absurd h
   kind_stays router (Some p) (Some q) h = ap (λ (x : ProcessText). Some (protocol_of_kind x.kind)) h
+  kind_stays router o n h = absurd h
 
   pub protocol_stays : protocol_of new ≡ protocol_of old
   protocol_stays = by old new (λ c d at_c at_d. (g.settings).each 0 c d at_c at_d) g.settings.whole
     where
       by : (cs ds : List Config) → ((c d : Config) → slice_get cs 0 ≡ Some c → slice_get ds 0 ≡ Some d → AreSettingsAfter net chosen 0 c d) → length ds ≡ length cs → protocol_of ds ≡ protocol_of cs
       by [] [] each whole = refl
-      by [] (d ∷ ds) each whole = absurd (omega (arith, whole))
-      by (c ∷ cs) [] each whole = absurd (omega (arith, whole))
       by (c ∷ cs) (d ∷ ds) each whole = ap (λ o. unwrap_or o Ospf) (kind_stays 0 (process_of c) (process_of d) (process_after net chosen 0 c d (each c d refl refl)))
+      by cs ds each whole = absurd (omega (arith, whole))
 
   pub clear_protocol : NoRefusal (RefusesProtocol old) → NoRefusal (RefusesProtocol new)
   clear_protocol clear r bad = by (process_of bad.item) refl bad.offends (process_of was.config) refl (process_after net chosen bad.place was.config bad.item was.after)
@@ -359,9 +357,8 @@ module _ (doc : Document) (net : Network) (old new : List Config) (chosen : List
       by : (o n : Option ProcessText) → ProcessAfter net chosen k o n →
           value (option_and_then (λ (p : ProcessText). as_of_process p.kind p) n) ≡ value (option_and_then (λ (p : ProcessText). as_of_process p.kind p) o)
       by None None h = refl
-      by None (Some q) h = absurd h
-      by (Some p) None h = absurd h
       by (Some p) (Some q) h = ap (λ (j : ProcessKind). value (as_of_process j q)) (ap (λ (x : ProcessText). x.kind) h) ∙ of_kind p.kind p q (ap (λ (x : ProcessText). x.number) h)
+      by o n h = absurd h
 
   pub clear_same_as : NoRefusal (RefusesSameAs old) → NoRefusal (RefusesSameAs new)
   clear_same_as = repeats_not kinds.SameAs as_of as_stays

@@ -1,7 +1,7 @@
 -- The lists of a kind that the files after edits bind and define are those of the network after the edits.
-use Rattle.std.proofs.Common.{◌≡◌, ℕ, ◌⊎◌, ◌↔◌, inl, inr, Bool, true, false, not, Option, Some, None, List, [], ◌∷◌, ◌++◌, refl, sym, ◌∙◌, ap, subst, if◌then◌else◌}
+use Rattle.std.proofs.Common.{◌≡◌, ℕ, ◌⊎◌, ◌↔◌, inl, inr, Bool, true, false, Option, Some, None, List, [], ◌∷◌, ◌++◌, refl, sym, ◌∙◌, ap, subst, if◌then◌else◌}
 use Rattle.std.specs.Prelude.{Contains, slice_get, option_map, bytes_eq}
-use Rattle.std.proofs.lemmas.Bool.{false≢true, and_parts}
+use Rattle.std.proofs.lemmas.Bool.{not-true, and_parts}
 use Rattle.std.proofs.lemmas.Option.{none-some, same_Some}
 use Rattle.std.proofs.lemmas.Slice.Eq.{bytes_eq-Decides}
 use Rattle.arc_base.specs.declared.place.Face.{Face}
@@ -36,11 +36,7 @@ pub record AreBound (net : Network) (chosen : List Edit) (old : List Config) (K 
 
 of_kind : (packet : Bool) (l : ListText) → is_of_kind packet l ≡ true → is_packet_kind l.kind ≡ packet
 of_kind true l e = e
-of_kind false l e = by (is_packet_kind l.kind) e
-  where
-    by : (b : Bool) → not b ≡ true → b ≡ false
-    by true e = absurd (false≢true e)
-    by false e = refl
+of_kind false l e = not-true (is_packet_kind l.kind) e
 
 module _ (doc : Document) (net : Network) (old new : List Config) (chosen : List Edit) (g : AreEdited doc net old new chosen) {K : ListsOfKind net chosen} (T : TextsOfKind net chosen K)
     (bound : AreBound net chosen old K T) where

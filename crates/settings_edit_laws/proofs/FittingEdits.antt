@@ -48,8 +48,6 @@ module _ (net : Network) (valid : IsValid net) where
         deeper p q inside (Some host) h = λ a held. h a (inside a held)
 
     fits : (classes : List Class) → AreAllClasses net doc.policies doc.policies classes → (destinations : List Prefix) (e : Edit) → IsFrom net destinations classes e → IsFitting net e
-    fits classes are destinations (edits.Session face) from = tt
-    fits classes are destinations (edits.RouteList list prefix) from = tt
     fits classes are destinations (edits.RouteNew face prefix) from = λ session in_net same.
         let one = one_session net valid session from.0.session in_net from.0.one (ap (λ (f : Face). f.0) (same ∙ sym from.0.at)) in
         ap (λ (s : SessionRow). s.bound) one ∙ from.0.free
@@ -58,6 +56,7 @@ module _ (net : Network) (valid : IsValid net) where
       class_host classes are class (of_writable classes class from.1),
       λ row at. ap (λ (r : FaceRow). r.bound_in) (same_Some row from.0.row (sym at ∙ from.0.at)) ∙ from.0.free,
     )
+    fits classes are destinations other from = tt
 
     pub edits_fit : (list : List Edit) (flags : List Bool) → AreEdits net doc list → AreFitting net (chosen_of list flags)
     edits_fit list flags are e there = fits are.classes are.classes_are are.destinations e (edits_from net doc list are e (chosen_listed list flags e there))

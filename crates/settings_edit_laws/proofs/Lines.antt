@@ -68,10 +68,7 @@ module _ (net : Network) (chosen : List Edit) (router : ℕ) where
       by : (o : Option FaceRow) → option_and_then (session_line net.protocol net face.0) o ≡ Some c → IsAdded c
       by None e = absurd (none-some c e)
       by (Some row) e = session_added net.protocol face.0 row c e
-  turning_added (edits.RouteList list prefix) c e = absurd (none-some c e)
-  turning_added (edits.RouteNew face prefix) c e = absurd (none-some c e)
-  turning_added (edits.PacketList list class) c e = absurd (none-some c e)
-  turning_added (edits.PacketNew face class) c e = absurd (none-some c e)
+  turning_added other c e = absurd (none-some c e)
 
   filter_added : (name : List ℕ) (list : NewList) (c : Command) → filter_command net list name ≡ Some c → IsAdded c
   filter_added name (lists.Route face) c e = by (session_at net face) e
@@ -113,12 +110,11 @@ module _ (net : Network) (chosen : List Edit) (router : ℕ) where
     where
       none_is_none : IsSome {T = ProcessText} None → ⊥
       none_is_none s = cc
-  lines_agree None (Some q) h some = absurd h
-  lines_agree (Some p) None h some = absurd h
   lines_agree (Some p) (Some q) h some =
       sym (bare_commands q.lines) ∙ ap (λ (r : ProcessText). commands_of r.lines) h ∙ map-append (λ (g : Given Command). g.value) (map bare_given p.lines) (map
       said (process_commands net chosen router)) ∙
       ap (λ l. l ++ commands_of (map said (process_commands net chosen router))) (bare_commands p.lines) ∙ ap (λ l. commands_of p.lines ++ l) (said_commands (process_commands net chosen router))
+  lines_agree o n h some = absurd h
 
   module _ (old new : Config) (after : AreSettingsAfter net chosen router old new) where
     pub process_after : ProcessAfter (process_of old) (process_of new)

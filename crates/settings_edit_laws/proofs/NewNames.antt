@@ -26,12 +26,11 @@ use Rattle.edit_list.specs.Changes.{new_prefixes, new_classes}
 
 -- what stands in a zip stands at one place in both
 pub zip_places : {X Y : Type 0} (xs : List X) (ys : List Y) (p : X × Y) → Contains (zip xs ys) p → (k : ℕ) × (slice_get xs k ≡ Some p.0) × (slice_get ys k ≡ Some p.1)
-zip_places [] ys p there = absurd (Contains-none p there)
-zip_places (x ∷ xs) [] p there = absurd (Contains-none p there)
 zip_places {X} {Y} (x ∷ xs) (y ∷ ys) p there = elim (Contains-cases (x, y) p (zip xs ys) there) [
   | inl here ↦ (0, ap (λ (q : X × Y). Some q.0) here, ap (λ (q : X × Y). Some q.1) here)
   | inr later ↦ let r = zip_places xs ys p later in (suc r.0, r.1, r.2)
 ]
+zip_places xs other p there = absurd (Contains-none p there)
 
 pub zip_there : {X Y : Type 0} (xs : List X) (ys : List Y) (k : ℕ) (x : X) (y : Y) → slice_get xs k ≡ Some x → slice_get ys k ≡ Some y → Contains (zip xs ys) (x, y)
 zip_there [] ys k x y a b = absurd (none-some x a)

@@ -32,29 +32,25 @@ maps_agree f g h (x ∷ xs) (y ∷ ys) e = (same_Some (f y) (g (h x)) (ap first 
 
 pub zip_length : {X Y : Type 0} (R : X → Y → Type 0) (xs : List X) (ys : List Y) → AllZip R xs ys → length ys ≡ length xs
 zip_length R [] [] h = refl
-zip_length R [] (y ∷ ys) h = absurd h
-zip_length R (x ∷ xs) [] h = absurd h
 zip_length R (x ∷ xs) (y ∷ ys) h = ap suc (zip_length R xs ys h.1)
+zip_length R xs ys h = absurd h
 
 pub zip_maps : {X Y Z W : Type 0} (R : Z → W → Type 0) (f : X → Z) (g : Y → W) (xs : List X) (ys : List Y) → AllZip (λ x y. R (f x) (g y)) xs ys → AllZip R (map f xs) (map g ys)
 zip_maps R f g [] [] h = tt
-zip_maps R f g [] (y ∷ ys) h = absurd h
-zip_maps R f g (x ∷ xs) [] h = absurd h
 zip_maps R f g (x ∷ xs) (y ∷ ys) h = (h.0, zip_maps R f g xs ys h.1)
+zip_maps R f g xs ys h = absurd h
 
 pub zip_weaker : {X Y : Type 0} (R S : X → Y → Type 0) (xs : List X) (ys : List Y) → ((x : X) (y : Y) → R x y → S x y) → AllZip R xs ys → AllZip S xs ys
 zip_weaker R S [] [] f h = tt
-zip_weaker R S [] (y ∷ ys) f h = absurd h
-zip_weaker R S (x ∷ xs) [] f h = absurd h
 zip_weaker R S (x ∷ xs) (y ∷ ys) f h = (f x y h.0, zip_weaker R S xs ys f h.1)
+zip_weaker R S xs ys f h = absurd h
 
 -- a relation of all items at one place makes lists go together
 pub zip_from : {X Y : Type 0} (R : X → Y → Type 0) (xs : List X) (ys : List Y) → length ys ≡ length xs →
     ((k : ℕ) (x : X) (y : Y) → slice_get xs k ≡ Some x → slice_get ys k ≡ Some y → R x y) → AllZip R xs ys
 zip_from R [] [] e h = tt
-zip_from R [] (y ∷ ys) e h = absurd (omega (arith, e))
-zip_from R (x ∷ xs) [] e h = absurd (omega (arith, e))
 zip_from R (x ∷ xs) (y ∷ ys) e h = (h zero x y refl refl, zip_from R xs ys (omega (arith, e)) (λ k z w a b. h (suc k) z w a b))
+zip_from R xs ys e h = absurd (omega (arith, e))
 
 -- the last item of two lists
 pub last_append : {X : Type 0} (o : Option X) (xs ys : List X) → last_or o (xs ++ ys) ≡ last_or (last_or o xs) ys
@@ -79,6 +75,10 @@ last_is_in o (y ∷ xs) x e = elim (last_is_in (Some y) xs x e) [
   | inl here ↦ inr (subst (λ z. Contains (y ∷ xs) z) (same_Some y x here) (Contains-head y xs))
   | inr later ↦ inr (Contains-tail y x xs later)
 ]
+
+pub nothing_in : {X : Type 0} (xs : List X) → ((x : X) → Contains xs x → ⊥) → xs ≡ []
+nothing_in [] none = refl
+nothing_in (x ∷ xs) none = absurd (none x (Contains-head x xs))
 
 -- where all are one, it is that
 pub last_is_one : {X : Type 0} (o : Option X) (xs : List X) (x : X) → Contains xs x → ((y : X) → Contains xs y → y ≡ x) → last_or o xs ≡ Some x

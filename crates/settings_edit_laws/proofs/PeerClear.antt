@@ -46,11 +46,8 @@ use Rattle.settings_edit_laws.proofs.Pairs.{any_of, of_any}
 use Rattle.arc_base.proofs.Zips.{AllZip-left}
 use Rattle.settings_edit_laws.proofs.Said.{filter_line_is, own_face_found}
 use Rattle.settings_edit_laws.proofs.SessionFacts.{session_found}
+use Rattle.settings_edit_laws.proofs.SessionRows.{no_remote}
 use Rattle.settings_edit_laws.proofs.Sites.{address_stays, site_now, full_name_stays}
-
-no_remote : (peer : ℕ) (c : Command) → IsAdded c → says_remote peer c ≡ None
-no_remote peer (commands.RemoteAs other asn) h = absurd h
-no_remote peer other h = refl
 
 not_tells : (c : Command) → IsAdded c → ((p : Prefix) × (c ≡ commands.Tells p)) → ⊥
 not_tells c h (p, e) = subst IsAdded e h
@@ -131,10 +128,7 @@ module _ (doc : Document) (net : Network) (old new : List Config) (chosen : List
         by : (o : Option FaceRow) → own_face net router face.0 ≡ o → option_and_then (session_line net.protocol net face.0) o ≡ Some x → IsKnown doc old c peer
         by None e f = absurd (none-some x f)
         by (Some row) e f = let own = own_face_found net g.valid g.small chosen router face.0 row e in of_session_line net.protocol face.0 row x own.0 own.1 f named
-    of_edit (edits.RouteList list prefix) x is named = absurd (none-some x is)
-    of_edit (edits.RouteNew face prefix) x is named = absurd (none-some x is)
-    of_edit (edits.PacketList list class) x is named = absurd (none-some x is)
-    of_edit (edits.PacketNew face class) x is named = absurd (none-some x is)
+    of_edit other x is named = absurd (none-some x is)
 
     of_filter : (x : Command) → Contains (filter_lines net chosen router) x → names_peer x ≡ Some peer → IsKnown doc old c peer
     of_filter x there named =

@@ -28,9 +28,8 @@ found {X} p (y ∷ xs) x there pass e = by (p y) refl (Contains-cases y x xs the
     by false f (inr there) later = later there (sym (ap (λ c. cond c (Some y) (find p xs)) f) ∙ e)
 
 pub few_zipped : {X Y : Type 0} (xs : List X) (ys : List Y) → length (zip xs ys) ≤ length xs
-few_zipped [] ys = omega arith
-few_zipped (x ∷ xs) [] = omega arith
 few_zipped (x ∷ xs) (y ∷ ys) = omega (arith, few_zipped xs ys)
+few_zipped xs other = omega arith
 
 list_short : (configs : List Config) → NoRefusal (RefusesEntries 2048 configs) → (config : Config) → Contains configs config → (list : ListText) → Contains config.lists list →
     length list.entries ≤ 2048

@@ -1,6 +1,6 @@
 -- The route lists that the files after edits bind and define are those of the network after the edits.
-use Rattle.std.proofs.Common.{◌≡◌, ℕ, ◌⊎◌, inl, inr, false, Option, Some, None, List, [], ◌∷◌, refl, sym, ◌∙◌, ap, subst}
-use Rattle.std.specs.Prelude.{Contains, slice_get, is_some, ◌↔◌}
+use Rattle.std.proofs.Common.{◌≡◌, ℕ, ◌⊎◌, inl, inr, false, Option, Some, None, List, refl, sym, ◌∙◌, ap, subst}
+use Rattle.std.specs.Prelude.{slice_get, is_some, ◌↔◌}
 use Rattle.std.proofs.lemmas.Bool.{false≢true}
 use Rattle.std.proofs.lemmas.Option.{none-some, same_Some}
 use Rattle.edit_list.specs.declared.edit_kinds.Edit.TheVariants as edits
@@ -21,13 +21,12 @@ use Rattle.edit_space.proofs.NamedFacts.{of_route_face}
 use Rattle.settings_edit_laws.specs.SettingsAfter.{AreSettingsAfter}
 use Rattle.settings_edit_laws.proofs.Edited.{AreEdited, face_row, face_site, session_site, route_edit_there}
 use Rattle.settings_edit_laws.proofs.NewNames.{one_name}
-use Rattle.settings_edit_laws.proofs.Pairs.{last_is_in}
+use Rattle.settings_edit_laws.proofs.Pairs.{last_is_in, nothing_in}
 use Rattle.settings_edit_laws.proofs.Said.{IsBoundNew, names_bound, bound_new, filter_after, filter_is_new}
 use Rattle.settings_edit_laws.proofs.SessionFacts.{session_found}
 use Rattle.net_rules.specs.Neighbors.{filter_of}
 use Rattle.edit_list.specs.Changes.{new_prefixes}
 use Rattle.arc_base.specs.Numbered.{is_empty}
-use Rattle.arc_base.proofs.Items.{Contains-head}
 use Rattle.std.specs.List.{last_or}
 use Rattle.settings_edit_laws.proofs.FileLists.{same_lists}
 use Rattle.settings_edit_laws.proofs.TextKinds.{route_texts}
@@ -58,13 +57,9 @@ module _ (doc : Document) (net : Network) (old new : List Config) (chosen : List
   bound_now router c d name at after bound = (
     bound.0,
     filter_after net g.valid g.small chosen router c d after (g.processes router c at) bound.0 ∙
-        ap (last_or (filter_of (lines_of c) bound.0)) (no_names (names_bound net g.valid g.small chosen router bound.0) (λ n there.
+        ap (last_or (filter_of (lines_of c) bound.0)) (nothing_in (names_bound net g.valid g.small chosen router bound.0) (λ n there.
         none-some name (sym (session_free router c bound.0 n at (bound_new net g.valid g.small chosen router bound.0 n there)) ∙ bound.1))) ∙ bound.1,
   )
-    where
-      no_names : (names : List (List ℕ)) → ((n : List ℕ) → Contains names n → ⊥) → names ≡ []
-      no_names [] none = refl
-      no_names (n ∷ names) none = absurd (none n (Contains-head n names))
 
   -- what is bound was bound, or is a new list
   pub bound_was : (router : ℕ) (c d : Config) (name : List ℕ) → slice_get old router ≡ Some c → AreSettingsAfter net chosen router c d →

@@ -56,9 +56,8 @@ with_names net chosen router (l ∷ ls) = ap (λ ns. l.name ∷ ns) (with_names 
 number_stays : (net : Network) (chosen : List Edit) (router : ℕ) (o n : Option ProcessText) → ProcessAfter net chosen router o n →
     option_map (λ (p : ProcessText). p.number) n ≡ option_map (λ (p : ProcessText). p.number) o
 number_stays net chosen router None None h = refl
-number_stays net chosen router None (Some q) h = absurd h
-number_stays net chosen router (Some p) None h = absurd h
 number_stays net chosen router (Some p) (Some q) h = ap (λ (r : ProcessText). Some r.number) h
+number_stays net chosen router o n h = absurd h
 
 module _ (doc : Document) (net : Network) (old new : List Config) (chosen : List Edit) (g : AreEdited doc net old new chosen) where
   module _ (router : ℕ) (c d : Config) (at : slice_get old router ≡ Some c) (after : AreSettingsAfter net chosen router c d) (name : List ℕ) where

@@ -6,7 +6,6 @@ use Rattle.std.proofs.lemmas.Bool.{eqb-true, false≢true, false_from_ne_true}
 use Rattle.std.proofs.lemmas.Slice.Eq.{bytes_eq-Decides}
 use Rattle.std.proofs.lemmas.Option.{none-some, same_Some}
 use Rattle.arc_base.specs.declared.place.Face.{Face}
-use Rattle.arc_base.proofs.Items.{Contains-head}
 use Rattle.net_model.specs.declared.rows.Network.{Network}
 use Rattle.net_model.specs.declared.rows.FaceRow.{FaceRow}
 use Rattle.net_model.specs.declared.rows.SessionRow.{SessionRow}
@@ -33,7 +32,7 @@ use Rattle.edit_list.proofs.NewListFacts.{picked_from, picks}
 use Rattle.line_patcher.specs.NewListLines.{filter_command}
 use Rattle.settings_edit_laws.proofs.Turned.{own_face, session_line, turning_line}
 use Rattle.settings_edit_laws.specs.SettingsAfter.{AreSettingsAfter}
-use Rattle.settings_edit_laws.proofs.Pairs.{picks_nothing, last_is_one}
+use Rattle.settings_edit_laws.proofs.Pairs.{picks_nothing, last_is_one, nothing_in}
 use Rattle.settings_edit_laws.proofs.Lines.{turning_lines, filter_lines, said_after}
 use Rattle.settings_edit_laws.proofs.SessionFacts.{one_session_peer, session_found, session_there, one_face}
 use Rattle.settings_edit_laws.proofs.NewNames.{one_name, new_of_named, named_of_new, route_list_there}
@@ -190,10 +189,7 @@ module _ (net : Network) (valid : IsValid net) (small : IsCountable net) (chosen
           by : (o : Option FaceRow) → option_and_then (session_line net.protocol net face.0) o ≡ Some c → says_filter peer c ≡ None
           by None e = absurd (none-some c e)
           by (Some row) e = session_binds_none net.protocol face.0 row c e
-      edit_binds_none (edits.RouteList list prefix) c e = absurd (none-some c e)
-      edit_binds_none (edits.RouteNew face prefix) c e = absurd (none-some c e)
-      edit_binds_none (edits.PacketList list class) c e = absurd (none-some c e)
-      edit_binds_none (edits.PacketNew face class) c e = absurd (none-some c e)
+      edit_binds_none other c e = absurd (none-some c e)
 
   -- a line that binds a list says nothing else
   binding_only : {X : Type 0} (says : Command → Option X) → ((peer : ℕ) (name : List ℕ) → says (commands.NeighborList peer name) ≡ None) → filter_map says (filter_lines net chosen router) ≡ []
@@ -283,12 +279,8 @@ module _ (net : Network) (valid : IsValid net) (small : IsCountable net) (chosen
           sym (session_found net valid b.face b.session b.at).1 ∙ ap (λ (u : SessionRow). u.face.0) one
 
       pub filter_stays : is_empty (new_prefixes chosen s.face.0) ≡ true → filter_of (lines_of new) s.peer ≡ filter_of (lines_of old) s.peer
-      filter_stays empty = filter_after s.peer ∙ ap (last_or (filter_of (lines_of old) s.peer)) (no_names (names_bound s.peer) (λ name in_names. no_new name (bound_new s.peer name in_names)))
+      filter_stays empty = filter_after s.peer ∙ ap (last_or (filter_of (lines_of old) s.peer)) (nothing_in (names_bound s.peer) (λ name in_names. no_new name (bound_new s.peer name in_names)))
         where
-          no_names : (names : List (List ℕ)) → ((name : List ℕ) → Contains names name → ⊥) → names ≡ []
-          no_names [] none = refl
-          no_names (name ∷ names) none = absurd (none name (Contains-head name names))
-
           no_new : (name : List ℕ) → IsBoundNew s.peer name → ⊥
           no_new name b =
               let filled = (of_route_face net valid chosen router b.face name b.new).filled in

@@ -2,7 +2,6 @@
 use Rattle.std.proofs.Common.{◌≡◌, ◌≢◌, ℕ, ◌<◌, ◌==◌, inl, inr, Bool, true, false, cond, Some, List, [], ◌∷◌, get_or, refl, sym, ◌∙◌, ap, subst, arith, find}
 use Rattle.std.specs.Prelude.{AllPairs, Contains, slice_get}
 use Rattle.std.proofs.lemmas.Bool.{eqb-true, cases_lt, false≢true}
-use Rattle.std.proofs.lemmas.List.{get_or_default}
 use Rattle.std.proofs.lemmas.Option.{none-some, same_Some, slice_get_within, get_or_from_slice_get}
 use Rattle.arc_base.specs.declared.place.Face.{Face}
 use Rattle.arc_base.proofs.Items.{Contains-head, Contains-tail, Contains-cases, Contains-none}
@@ -11,6 +10,7 @@ use Rattle.net_model.specs.declared.rows.SessionRow.{SessionRow}
 use Rattle.net_model.specs.declared.rows.Network.{Network}
 use Rattle.net_model.specs.Routing.{session_at}
 use Rattle.net_model.specs.Validity.{IsValid, AreSessionsApart}
+use Rattle.net_model.proofs.Readings.{place_of_item}
 use Rattle.edit_list.proofs.Apart.{one_session}
 
 -- what is found is there and passes the test
@@ -34,24 +34,6 @@ find_one {X} p (y ∷ xs) x there pass one = by (p y) refl (λ later. find_one p
       | inr after ↦ later after
     ]
 
--- two items that are not apart are one
-pub pairs_same : {X : Type 0} (R : X → X → Type 0) (xs : List X) (x y : X) → AllPairs R xs → Contains xs x → Contains xs y → ¬ R x y → ¬ R y x → x ≡ y
-pairs_same {X} R xs x y all (i, l, e) (j, m, f) differ back = elim (cases_lt i j) [
-  | inl low ↦ absurd (differ (subst (λ (w : X). R x w) (at_y x) (subst (λ (v : X). R v (get_or xs j x)) e (all i j x low m))))
-  | inr high ↦ elim (cases_lt j i) [
-    | inl low ↦ absurd (back (subst (λ (w : X). R y w) (at_x y) (subst (λ (v : X). R v (get_or xs i y)) f (all j i y low l))))
-    | inr same ↦
-        let place : i ≡ j = omega (arith, high, same) in
-        sym e ∙ ap (λ k. get_or xs k x) place ∙ at_y x
-  ]
-]
-  where
-    at_y : (d : X) → get_or xs j d ≡ y
-    at_y d = get_or_default xs j d y m ∙ f
-
-    at_x : (d : X) → get_or xs i d ≡ x
-    at_x d = get_or_default xs i d x l ∙ e
-
 -- what holds of pairs holds of two items at their places
 pub pair_at : {X : Type 0} (R : X → X → Type 0) (xs : List X) (i j : ℕ) (x y : X) → AllPairs R xs → i < j → slice_get xs i ≡ Some x → slice_get xs j ≡ Some y → R x y
 pair_at {X} R xs i j x y all low at_x at_y =
@@ -60,14 +42,19 @@ pair_at {X} R xs i j x y all low at_x at_y =
 -- two items at places that are not apart are at one place
 pub one_place_apart : {X : Type 0} (R : X → X → Type 0) (xs : List X) (j k : ℕ) (x y : X) → AllPairs R xs → slice_get xs j ≡ Some x → slice_get xs k ≡ Some y → ¬ R x y → ¬ R y x → j ≡ k
 one_place_apart {X} R xs j k x y all at_x at_y differ back = elim (cases_lt j k) [
-  | inl low ↦ absurd (differ
-      (subst (λ (w : X). R x w) (get_or_from_slice_get xs k y x at_y) (subst (λ (v : X). R v (get_or xs k x)) (get_or_from_slice_get xs j x x at_x) (all j k x low (slice_get_within xs k y at_y)))))
+  | inl low ↦ absurd (differ (pair_at R xs j k x y all low at_x at_y))
   | inr high ↦ elim (cases_lt k j) [
-    | inl low ↦ absurd (back
-        (subst (λ (w : X). R y w) (get_or_from_slice_get xs j x y at_x) (subst (λ (v : X). R v (get_or xs j y)) (get_or_from_slice_get xs k y y at_y) (all k j y low (slice_get_within xs j x at_x)))))
+    | inl low ↦ absurd (back (pair_at R xs k j y x all low at_y at_x))
     | inr same ↦ omega (arith, high, same)
   ]
 ]
+
+-- two items that are not apart are one
+pub pairs_same : {X : Type 0} (R : X → X → Type 0) (xs : List X) (x y : X) → AllPairs R xs → Contains xs x → Contains xs y → ¬ R x y → ¬ R y x → x ≡ y
+pairs_same R xs x y all in_x in_y differ back =
+    let a = place_of_item xs x in_x in
+    let b = place_of_item xs y in_y in
+    same_Some x y (sym a.1 ∙ ap (slice_get xs) (one_place_apart R xs a.0 b.0 x y all a.1 b.1 differ back) ∙ b.1)
 
 -- two items of one router with one name are at one place
 pub one_named : {X : Type 0} (router : X → ℕ) (name : X → List ℕ) (xs : List X) (j k : ℕ) (x y : X) →

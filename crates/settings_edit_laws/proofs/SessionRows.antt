@@ -1,13 +1,12 @@
 -- The sessions after the edits are those of the files after them.
-use Rattle.std.proofs.Common.{◌≡◌, ℕ, suc, ◌<◌, ◌==◌, ◌||◌, ◌⊎◌, inl, inr, Bool, true, false, not, Option, Some, None, List, [], ◌∷◌, get_or, map, refl, sym, ◌∙◌, ap, subst, arith}
-use Rattle.std.specs.Prelude.{AllPairs, Contains, IsSome, IsSomeAnd, MatchBool, is_some, slice_get, option_map, bytes_eq}
+use Rattle.std.proofs.Common.{◌≡◌, ℕ, suc, ◌<◌, ◌==◌, ◌⊎◌, inl, inr, Bool, true, false, Option, Some, None, List, [], ◌∷◌, get_or, map, refl, sym, ◌∙◌, ap, subst, arith}
+use Rattle.std.specs.Prelude.{AllPairs, Contains, IsSome, is_some, slice_get, option_map, bytes_eq}
 use Rattle.std.proofs.lemmas.Bool.{false≢true, eqb-true}
 use Rattle.std.proofs.lemmas.Option.{same_Some, slice_get-get_or}
 use Rattle.std.proofs.lemmas.Slice.Eq.{bytes_eq-Decides}
 use Rattle.arc_base.specs.declared.place.Face.{Face}
 use Rattle.arc_base.specs.declared.place.ListId.{ListId}
-use Rattle.arc_base.proofs.Items.{Contains-cases, Contains-none, Contains-map, from_map}
-use Rattle.net_model.specs.declared.lists.RouteList.{RouteList}
+use Rattle.arc_base.proofs.Items.{Contains-cases, Contains-none}
 use Rattle.net_model.specs.declared.policies.Document.{Document}
 use Rattle.net_model.specs.declared.rows.FaceRow.{FaceRow}
 use Rattle.net_model.specs.declared.rows.LinkRow.{LinkRow}
@@ -20,7 +19,7 @@ use Rattle.net_model.proofs.Readings.{item_at_place, place_of_item}
 use Rattle.ios_words.specs.declared.commands.Command.{Command}
 use Rattle.ios_words.specs.declared.commands.Command.TheVariants as commands
 use Rattle.ios_config.specs.declared.settings.Config.{Config}
-use Rattle.net_rules.specs.Lists.{IsPlaceAmong, IsListName, route_list_key, AreRouteLists}
+use Rattle.net_rules.specs.Lists.{IsPlaceAmong, route_list_key, AreRouteLists}
 use Rattle.net_rules.specs.Neighbors.{says_remote, remote_of, is_down, filter_of}
 use Rattle.net_rules.specs.Ordered.{AreInOrder, IsPairBefore}
 use Rattle.net_rules.specs.Rows.{IsConfigured, IsSessionOf, IsSession, IsSessionBefore, AreSessions}
@@ -34,28 +33,19 @@ use Rattle.edit_list.specs.declared.list_kinds.NewList.TheVariants as lists
 use Rattle.edit_list.specs.Changes.{new_prefixes}
 use Rattle.edit_list.specs.NewLists.{IsNewList}
 use Rattle.arc_base.specs.Numbered.{is_empty}
-use Rattle.edit_list.specs.After.{IsAfter, IsSessionAfter, StaysBound, RouteListMoves, IsNewRouteList, edited_route_list}
-use Rattle.edit_space.proofs.ListKinds.{one_router, routes}
+use Rattle.edit_list.specs.After.{IsAfter, IsSessionAfter}
+use Rattle.edit_space.proofs.ListKinds.{routes}
 use Rattle.edit_list.proofs.RowFacts.{row_was, row_now}
-use Rattle.settings_edit_laws.proofs.Bound.{key_at, stays_placed}
-use Rattle.settings_edit_laws.proofs.Edited.{AreEdited, not_new, face_row, IsRowOf, session_is}
+use Rattle.settings_edit_laws.proofs.Bound.{flag_after, bound_after}
+use Rattle.settings_edit_laws.proofs.Edited.{AreEdited, face_row, IsRowOf, session_is}
 use Rattle.settings_edit_laws.proofs.Lines.{IsAdded, same_said}
-use Rattle.settings_edit_laws.proofs.NewNames.{one_name}
 use Rattle.settings_edit_laws.proofs.Said.{down_now, filter_stays, filter_is_new}
 use Rattle.settings_edit_laws.proofs.SessionFacts.{pair_at}
 use Rattle.settings_edit_laws.proofs.Sites.{IsSiteAfter, address_stays, site_now, site_was}
 
-no_remote : (peer : ℕ) (c : Command) → IsAdded c → says_remote peer c ≡ None
+pub no_remote : (peer : ℕ) (c : Command) → IsAdded c → says_remote peer c ≡ None
 no_remote peer (commands.RemoteAs other asn) h = absurd h
 no_remote peer other h = refl
-
-or_right : (b : Bool) → (b || false) ≡ b
-or_right true = refl
-or_right false = refl
-
-or_true : (b : Bool) → (b || true) ≡ true
-or_true true = refl
-or_true false = refl
 
 -- a list with a key stands at a place, or there is none
 find_place : (keys : List (ℕ × List ℕ)) (router : ℕ) (name : List ℕ) → ((k : ℕ) × (slice_get keys k ≡ Some (router, name))) ⊎ (Contains keys (router, name) → ⊥)
@@ -93,20 +83,6 @@ module _ (doc : Document) (net : Network) (old new : List Config) (chosen : List
 
   abbrev keys : List (ℕ × List ℕ)
   keys = map route_list_key after.route_lists
-
-  -- a list of an old name was there before
-  route_was_there : (router : ℕ) (c : Config) (name : List ℕ) → slice_get old router ≡ Some c → IsListName c name → Contains keys (router, name) → Contains was_keys (router, name)
-  route_was_there router c name at listed there =
-      let r = from_map route_list_key after.route_lists (router, name) there in
-      elim ((is.route_lists r.0).0 r.1) [
-        | inl (place, was, at_place, same) ↦
-            subst (λ (k : ℕ × List ℕ). Contains was_keys k) (ap route_list_key (sym same) ∙ r.2) (Contains-map route_list_key net.route_lists was (item_at_place net.route_lists place was at_place))
-        | inr (face, n) ↦
-            let router_is : r.0.router.0 ≡ router = ap (λ (k : ℕ × List ℕ). k.0) r.2 in
-            let name_is : r.0.name ≡ name = ap (λ (k : ℕ × List ℕ). k.1) r.2 in
-            absurd (not_new doc net old new chosen g router c name at listed (lists.Route face)
-            (subst (λ (m : List ℕ). IsNewList net chosen router (lists.Route face) m) name_is (subst (λ (m : ℕ). IsNewList net chosen m (lists.Route face) r.0.name) router_is n.named)))
-      ]
 
   module _ (k : ℕ) (s now : SessionRow) (in_net : Contains net.sessions s) (sa : IsSessionAfter net chosen after k s now) (near near_now : Site) (at_near : slice_get (sites old) s.face.0 ≡ Some near)
       (na : IsSiteAfter net chosen near near_now) (cs : IsConfigured was_keys near.router near.config s) where
@@ -147,46 +123,14 @@ module _ (doc : Document) (net : Network) (old new : List Config) (chosen : List
     filters_new e = filter_is_new net g.valid g.small chosen near.router near.config near_now.config na.settings has s row.0 in_net row.1 own e
 
     bound_is : now.bound ≡ is_some (filter_of (lines_of near_now.config) now.peer)
-    bound_is = sa.bound ∙ by (is_empty (new_prefixes chosen s.face.0)) refl ∙ ap (λ p. is_some (filter_of (lines_of near_now.config) p)) (sym peer_same)
-      where
-        by : (b : Bool) → is_empty (new_prefixes chosen s.face.0) ≡ b → (s.bound || not (is_empty (new_prefixes chosen s.face.0))) ≡ is_some (filter_of (lines_of near_now.config) s.peer)
-        by true e = ap (λ c. s.bound || not c) e ∙ or_right s.bound ∙ cs.bound ∙ sym (ap is_some (filters_old e))
-        by false e = ap (λ c. s.bound || not c) e ∙ or_true s.bound ∙ sym (ap is_some (filters_new e).2)
+    bound_is =
+        sa.bound ∙ flag_after (IsNewList net chosen near.router (lists.Route s.face)) (is_empty (new_prefixes chosen s.face.0)) s.bound (filter_of (lines_of near.config) s.peer)
+        (filter_of (lines_of near_now.config) s.peer) cs.bound filters_old filters_new ∙ ap (λ p. is_some (filter_of (lines_of near_now.config) p)) (sym peer_same)
 
     filter_is : IsPlaceAmong keys near.router (filter_of (lines_of near_now.config) s.peer) now.filter
-    filter_is = by (is_empty (new_prefixes chosen s.face.0)) refl sa.filter
-      where
-        new_place : (n : Option ListId) (name : List ℕ) → IsNewList net chosen near.router (lists.Route s.face) name →
-            IsSomeAnd n (λ id. IsSomeAnd (slice_get after.route_lists id.0) (IsNewRouteList net chosen s.face)) → IsPlaceAmong keys near.router (Some name) n
-        new_place None name made h = absurd h
-        new_place (Some id) name made h = inner (slice_get after.route_lists id.0) refl h
-          where
-            inner : (o : Option RouteList) → slice_get after.route_lists id.0 ≡ o → IsSomeAnd o (IsNewRouteList net chosen s.face) → slice_get keys id.0 ≡ Some (near.router, name)
-            inner None e h = absurd h
-            inner (Some l) e h =
-                let router_is : l.router.0 ≡ near.router = one_router (routes net chosen g.valid) l.router.0 near.router s.face l.name name h.named made in
-                let name_is : l.name ≡ name =
-                one_name net g.valid g.small chosen near.router (lists.Route s.face) l.name name (subst (λ (r : ℕ). IsNewList net chosen r (lists.Route s.face) l.name) router_is h.named) made in
-                key_at route_list_key net.route_lists after.route_lists (edited_route_list chosen) (λ j m. refl) after.route_lists id.0 l (near.router, name) e (λ i. (router_is i, name_is i))
-
-        by : (b : Bool) → is_empty (new_prefixes chosen s.face.0) ≡ b → MatchBool (is_empty (new_prefixes chosen s.face.0)) (StaysBound (RouteListMoves net chosen after) s.filter now.filter)
-            (IsSomeAnd now.filter (λ id. IsSomeAnd (slice_get after.route_lists id.0) (IsNewRouteList net chosen s.face))) →
-            IsPlaceAmong keys near.router (filter_of (lines_of near_now.config) s.peer) now.filter
-        by true e h =
-            let h' : MatchBool true (StaysBound (RouteListMoves net chosen after) s.filter now.filter)
-            (IsSomeAnd now.filter (λ id. IsSomeAnd (slice_get after.route_lists id.0) (IsNewRouteList net chosen s.face))) =
-            subst (λ (c : Bool). MatchBool c (StaysBound (RouteListMoves net chosen after) s.filter now.filter)
-            (IsSomeAnd now.filter (λ id. IsSomeAnd (slice_get after.route_lists id.0) (IsNewRouteList net chosen s.face)))) e h in
-            subst (λ (o : Option (List ℕ)). IsPlaceAmong keys near.router o now.filter) (sym (filters_old e))
-            (stays_placed route_list_key net.route_lists after.route_lists (edited_route_list chosen) (λ j m. refl) near.router (filter_of (lines_of near.config) s.peer) s.filter now.filter
-            (λ name bound there. route_was_there near.router near.config name file.file_at (inr (inr (s.peer, bound))) there) h' cs.filter)
-        by false e h =
-            let h' : MatchBool false (StaysBound (RouteListMoves net chosen after) s.filter now.filter)
-            (IsSomeAnd now.filter (λ id. IsSomeAnd (slice_get after.route_lists id.0) (IsNewRouteList net chosen s.face))) =
-            subst (λ (c : Bool). MatchBool c (StaysBound (RouteListMoves net chosen after) s.filter now.filter)
-            (IsSomeAnd now.filter (λ id. IsSomeAnd (slice_get after.route_lists id.0) (IsNewRouteList net chosen s.face)))) e h in
-            let n = filters_new e in
-            subst (λ (o : Option (List ℕ)). IsPlaceAmong keys near.router o now.filter) (sym n.2) (new_place now.filter n.0 n.1 h')
+    filter_is =
+        bound_after doc net old new chosen g (routes net chosen g.valid) after.route_lists is.route_lists near.router near.config file.file_at s.face (is_empty (new_prefixes chosen s.face.0))
+        (filter_of (lines_of near.config) s.peer) (filter_of (lines_of near_now.config) s.peer) s.filter now.filter filters_old filters_new (λ name b. inr (inr (s.peer, b))) sa.filter cs.filter
 
     pub configured_now : IsConfigured keys near_now.router near_now.config now
     configured_now = record {

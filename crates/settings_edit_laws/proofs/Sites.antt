@@ -114,11 +114,10 @@ module _ (net : Network) (chosen : List Edit) where
 
   sites_from : (n : ℕ) (cs ds : List Config) → AreFiles net chosen n cs ds → AllZip IsSiteAfter (flat_map sites_of (enumerate_from n cs)) (flat_map sites_of (enumerate_from n ds))
   sites_from n [] [] f = tt
-  sites_from n [] (d ∷ ds) f = absurd (omega (arith, f.whole))
-  sites_from n (c ∷ cs) [] f = absurd (omega (arith, f.whole))
   sites_from n (c ∷ cs) (d ∷ ds) f =
       AllZip-append IsSiteAfter (sites_of (n, c)) (sites_of (n, d)) (flat_map sites_of (enumerate_from (n + 1) cs)) (flat_map sites_of (enumerate_from (n + 1) ds))
       (file_after n c d (files_first n c d cs ds f)) (sites_from (n + 1) cs ds (files_rest n c d cs ds f))
+  sites_from n cs ds f = absurd (omega (arith, f.whole))
 
   module _ (old new : List Config) (all : AreAllSettingsAfter net chosen old new) where
     pub sites_after : AllZip IsSiteAfter (sites old) (sites new)
@@ -135,12 +134,11 @@ module _ (net : Network) (chosen : List Edit) where
 
     names_of_sites : (ss ts : List Site) → AllZip IsSiteAfter ss ts → map full_name ts ≡ map full_name ss
     names_of_sites [] [] h = refl
-    names_of_sites [] (t ∷ ts) h = absurd h
-    names_of_sites (s ∷ ss) [] h = absurd h
     names_of_sites (s ∷ ss) (t ∷ ts) h =
         let head : full_name t ≡ full_name s = full_name_stays s t h.0 in
         let tail : map full_name ts ≡ map full_name ss = names_of_sites ss ts h.1 in
         λ i. head i ∷ tail i
+    names_of_sites ss ts h = absurd h
 
     pub full_names_stay : full_names new ≡ full_names old
     full_names_stay = names_of_sites (sites old) (sites new) sites_after

@@ -139,11 +139,9 @@ module _ (net : Network) (valid : IsValid net) (small : IsCountable net) (chosen
 -- the entries of a list without their numbers are the same
 pub packet_without : (c : Command) → packet_entry (without_number c) ≡ packet_entry c
 packet_without (commands.Entry number entry) = refl
-packet_without (commands.PrefixLine name number entry) = refl
 packet_without other = refl
 
 pub route_without : (c : Command) → route_entry (without_number c) ≡ route_entry c
-route_without (commands.Entry number entry) = refl
 route_without (commands.PrefixLine name number entry) = refl
 route_without other = refl
 

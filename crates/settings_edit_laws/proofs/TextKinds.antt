@@ -77,16 +77,12 @@ module _ (net : Network) (chosen : List Edit) where
   pub class_for_is : (router : ℕ) (name : List ℕ) (e : Edit) →
       class_for net router name e ≡ option_and_then (λ (c : ℕ × Class). option_and_then (λ l. if_own_list router name l.router.0 l.name c.1) (slice_get net.packet_lists c.0)) (packet_list_change e)
   class_for_is router name (edits.PacketList list class) = refl
-  class_for_is router name (edits.Session face) = refl
-  class_for_is router name (edits.RouteList list prefix) = refl
-  class_for_is router name (edits.RouteNew face prefix) = refl
-  class_for_is router name (edits.PacketNew face class) = refl
+  class_for_is router name other = refl
 
   pub packet_front : (router : ℕ) (l : ListText) (k : ListKind) → is_packet_kind k ≡ true →
       front_lines net chosen router l k ≡ map (λ (c : Class). packet_command l.form l.name None (opposite_packet_entry (packet_entries l) c)) (filter_map (class_for net router l.name) chosen)
-  packet_front router l kinds.Extended p = refl
-  packet_front router l kinds.Standard p = refl
   packet_front router l kinds.Prefix p = absurd (false≢true p)
+  packet_front router l other p = refl
 
   abbrev pub packet_texts : (valid : IsValid net) → TextsOfKind net chosen (packets net chosen valid)
   packet_texts valid = record {
@@ -124,16 +120,12 @@ module _ (net : Network) (chosen : List Edit) where
   pub prefix_for_is : (router : ℕ) (name : List ℕ) (e : Edit) →
       prefix_for net router name e ≡ option_and_then (λ (c : ℕ × Prefix). option_and_then (λ l. if_own_list router name l.router.0 l.name c.1) (slice_get net.route_lists c.0)) (route_list_change e)
   prefix_for_is router name (edits.RouteList list prefix) = refl
-  prefix_for_is router name (edits.Session face) = refl
-  prefix_for_is router name (edits.PacketList list class) = refl
-  prefix_for_is router name (edits.RouteNew face prefix) = refl
-  prefix_for_is router name (edits.PacketNew face class) = refl
+  prefix_for_is router name other = refl
 
   pub route_front : (router : ℕ) (l : ListText) (k : ListKind) → is_packet_kind k ≡ false →
       front_lines net chosen router l k ≡ map (λ (p : Prefix). route_line l.name (opposite_route_entry (route_entries l) p)) (filter_map (prefix_for net router l.name) chosen)
-  route_front router l kinds.Extended p = absurd (false≢true (sym p))
-  route_front router l kinds.Standard p = absurd (false≢true (sym p))
   route_front router l kinds.Prefix p = refl
+  route_front router l other p = absurd (false≢true (sym p))
 
   abbrev pub route_texts : (valid : IsValid net) → TextsOfKind net chosen (routes net chosen valid)
   route_texts valid = record {

@@ -32,10 +32,6 @@ module _ (net : Network) (router : ℕ) where
   placed_line edit = option_and_then (session_command net) (option_and_then (if_number router) (turned_face net edit))
 
   same_line : (edit : Edit) → placed_line edit ≡ turning_line net router edit
-  same_line (edits.RouteList list prefix) = refl
-  same_line (edits.RouteNew face prefix) = refl
-  same_line (edits.PacketList list class) = refl
-  same_line (edits.PacketNew face class) = refl
   same_line (edits.Session face) = by (slice_get net.faces face.0) refl
     where
       inner : (row : FaceRow) → slice_get net.faces face.0 ≡ Some row → (b : Bool) →
@@ -48,6 +44,7 @@ module _ (net : Network) (router : ℕ) where
           ≡ option_and_then (session_line net.protocol net face.0) (option_and_then (λ (f : FaceRow). if f.router.0 == router then Some f else None) o)
       by None at = refl
       by (Some row) at = inner row at (row.router.0 == router)
+  same_line other = refl
 
   pub turned_lines : (chosen : List Edit) → session_commands net chosen router ≡ filter_map (turning_line net router) chosen
   turned_lines chosen =

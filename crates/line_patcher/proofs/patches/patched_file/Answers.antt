@@ -2,6 +2,7 @@ use Rattle.std.proofs.Common.{◌≡◌, ◌∙◌, ℕ, ◌++◌, List, length,
 use Rattle.std.specs.Prelude.{Some, slice_get}
 use Rattle.std.specs.List.{zip}
 use Rattle.std.proofs.lemmas.Result.{IfOk-weaker}
+use Rattle.arc_base.proofs.Grouped.{told_within}
 use Rattle.ios_lines.specs.declared.line.Lines.{Lines}
 use Rattle.net_build.specs.declared.built.Built.{Built}
 use Rattle.net_build.specs.declared.built.Places.{Places}
@@ -12,13 +13,13 @@ use Rattle.line_patcher.specs.Additions.{numbers_at}
 use Rattle.line_patcher.specs.Patches.{IsPatched, patched_text}
 use Rattle.line_patcher.specs.Written.{lines_at}
 use Rattle.line_patcher.proofs.Patched.{is-patched}
-use Rattle.line_patcher.proofs.Tables.{item_at, told_length, names_counted, named_are}
+use Rattle.line_patcher.proofs.Tables.{item_at, names_counted, named_are}
 use Rattle.line_patcher.proofs.patches.patched_file.Goals as goal
 
 pub index-requires : goal.index-requires
 index-requires c =
     let net : Network = c.args.built.now.net in
-    omega (arith, c.requires.file.routed, told_length (length net.routers) (new_names_of net c.args.plan.now.changes.edits.items) c.args.plan.now.names.items c.requires.plan.names.told)
+    omega (arith, told_within (new_names_of net c.args.plan.now.changes.edits.items) (length net.routers) c.args.router c.args.plan.now.names.items c.requires.plan.names.told c.requires.file.routed)
 
 pub named_lists-requires : goal.named_lists-requires
 named_lists-requires c =
