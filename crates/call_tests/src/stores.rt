@@ -10,6 +10,16 @@ use std::test::Fail;
 use std::time::SystemTime;
 use std::{env, fs};
 
+const HELLO: &[u8] = b"hello";
+
+const WRITTEN: &[u8] = b"written";
+
+const MISSING: Option<ReadAll> = Some(ReadAll::Fault(Fault::Missing));
+
+const FAILED: Option<ReadAll> = Some(ReadAll::Fault(Fault::Failed));
+
+const TOO_LONG: Option<ReadAll> = Some(ReadAll::TooLong);
+
 fn files(alloc: Global) -> Result<List<(Name, Name)>, Fail> {
     let mut files = List::make(alloc);
     files.push((Name::make(alloc, b"a")?, Name::make(alloc, b"old")?))?;
@@ -30,10 +40,7 @@ fn allocating_calls_answer(rt: HostRuntime) -> Result<(), Fail> {
     let alloc = rt.alloc();
     let name = Name::make(alloc, b"a")?;
     let mut sure = SureStore::make(alloc, files(alloc)?)?;
-    assert_eq!(rt;
-        read_all(alloc, &mut sure, &name, 5)?.as_slice(),
-        b"hello".as_slice()
-    );
+    assert_eq!(rt; read_all(alloc, &mut sure, &name, 5)?.as_slice(), HELLO);
     sure.write_whole(&name, b"new")?;
     assert_eq!(rt; sure.bytes(&name), Some(b"new".as_slice()));
     let mut out = SureSink::make(alloc);
@@ -82,10 +89,7 @@ fn lines_come_in_order(rt: HostRuntime) -> Result<(), Fail> {
     assert_eq!(rt; lines[1].len(), 0);
     assert_eq!(rt; lines[2].len(), 140_001);
     assert_eq!(rt; lines[3].as_slice(), b"last".as_slice());
-    assert_eq!(rt;
-        lines_of(alloc, &mut store, &name, 140_007).err(),
-        Some(ReadAll::TooLong)
-    );
+    assert_eq!(rt; lines_of(alloc, &mut store, &name, 140_007).err(), TOO_LONG);
     Ok(())
 }
 
@@ -96,16 +100,10 @@ fn line_reads_fail(rt: HostRuntime) -> Result<(), Fail> {
     let name = Name::make(alloc, b"a")?;
     let mut store = MemStore::make(alloc, files(alloc)?, failing(alloc, 2)?)?;
     let mut pieces = Pieces::make(alloc, 9);
-    assert_eq!(rt;
-        pieces.next(&mut store, &name).err(),
-        Some(ReadAll::Fault(Fault::Failed))
-    );
+    assert_eq!(rt; pieces.next(&mut store, &name).err(), FAILED);
     assert!(rt; pieces.failed());
     let none = Name::make(alloc, b"b")?;
-    assert_eq!(rt;
-        lines_of(alloc, &mut store, &none, 9).err(),
-        Some(ReadAll::Fault(Fault::Missing))
-    );
+    assert_eq!(rt; lines_of(alloc, &mut store, &none, 9).err(), MISSING);
     Ok(())
 }
 
@@ -116,15 +114,10 @@ fn chosen_calls_fail(rt: HostRuntime) -> Result<(), Fail> {
     let name = Name::make(alloc, b"a")?;
     let mut store = MemStore::make(alloc, files(alloc)?, failing(alloc, 2)?)?;
     store.write_whole(&name, b"first")?;
-    assert_eq!(rt;
-        store.write_whole(&name, b"seven..").err(),
-        Some(Fault::Failed)
-    );
+    let half = store.write_whole(&name, b"seven..");
+    assert_eq!(rt; half.err(), Some(Fault::Failed));
     assert_eq!(rt; store.bytes(&name), Some(b"sev".as_slice()));
-    assert_eq!(rt;
-        read_all(alloc, &mut store, &name, 2).err(),
-        Some(ReadAll::TooLong)
-    );
+    assert_eq!(rt; read_all(alloc, &mut store, &name, 2).err(), TOO_LONG);
     let mut out = MemSink::make(alloc, failing(alloc, 1)?);
     assert_eq!(rt; out.put(b"lost").err(), Some(Fault::Failed));
     assert_eq!(rt; out.put(b"kept")?, 4);
@@ -141,14 +134,8 @@ fn short_calls_give_the_same(rt: HostRuntime) -> Result<(), Fail> {
     let mut piece = [0u8; 4];
     assert_eq!(rt; store.read_at(&name, 1, &mut piece)?, 3);
     assert_eq!(rt; &piece[..3], b"ell".as_slice());
-    assert_eq!(rt;
-        read_all(alloc, &mut store, &name, 5).err(),
-        Some(ReadAll::Fault(Fault::Failed))
-    );
-    assert_eq!(rt;
-        read_all(alloc, &mut store, &name, 5)?.as_slice(),
-        b"hello".as_slice()
-    );
+    assert_eq!(rt; read_all(alloc, &mut store, &name, 5).err(), FAILED);
+    assert_eq!(rt; read_all(alloc, &mut store, &name, 5)?.as_slice(), HELLO);
     let mut out = MemSink::short(alloc, 3, failing(alloc, 2)?);
     assert_eq!(rt; out.put(b"text")?, 3);
     assert_eq!(rt; out.put(b"t").err(), Some(Fault::Failed));
@@ -168,44 +155,20 @@ fn disk_and_standard_output(rt: HostRuntime) -> Result<(), Fail> {
     let path = place.as_path().as_str();
     let name = Name::make(alloc, path.as_bytes())?;
     let mut store = DiskStore::make(rt, alloc);
-    assert_eq!(rt;
-        read_all(alloc, &mut store, &name, 9).err(),
-        Some(ReadAll::Fault(Fault::Missing))
-    );
+    assert_eq!(rt; read_all(alloc, &mut store, &name, 9).err(), MISSING);
     store.write_whole(&name, b"written")?;
-    assert_eq!(rt;
-        read_all(alloc, &mut store, &name, 7)?.as_slice(),
-        b"written".as_slice()
-    );
-    assert_eq!(rt;
-        read_all(alloc, &mut store, &name, 6).err(),
-        Some(ReadAll::TooLong)
-    );
+    assert_eq!(rt; read_all(alloc, &mut store, &name, 7)?.as_slice(), WRITTEN);
+    assert_eq!(rt; read_all(alloc, &mut store, &name, 6).err(), TOO_LONG);
     let other = Name::make(alloc, format!(in alloc; "/.{path}")?.as_bytes())?;
-    assert_eq!(rt;
-        store.write_whole(&other, b"lost").err(),
-        Some(Fault::Failed)
-    );
-    assert_eq!(rt;
-        store
-            .failure()
-            .and_then(|failure| failure.read_as.as_ref())
-            .map(Name::bytes),
-        Some(path.as_bytes())
-    );
-    assert_eq!(rt;
-        read_all(alloc, &mut store, &name, 99)?.as_slice(),
-        b"written".as_slice()
-    );
+    let lost = store.write_whole(&other, b"lost");
+    assert_eq!(rt; lost.err(), Some(Fault::Failed));
+    let read_as = store.failure().and_then(|failure| failure.read_as.as_ref());
+    assert_eq!(rt; read_as.map(Name::bytes), Some(path.as_bytes()));
+    assert_eq!(rt; read_all(alloc, &mut store, &name, 99)?.as_slice(), WRITTEN);
     let no_path = Name::make(alloc, b"\xff")?;
-    assert_eq!(rt;
-        read_all(alloc, &mut store, &no_path, 9).err(),
-        Some(ReadAll::Fault(Fault::Failed))
-    );
-    assert_eq!(rt;
-        store.failure().map(|failure| failure.operation),
-        Some(Operation::Reading)
-    );
+    assert_eq!(rt; read_all(alloc, &mut store, &no_path, 9).err(), FAILED);
+    let operation = store.failure().map(|failure| failure.operation);
+    assert_eq!(rt; operation, Some(Operation::Reading));
     fs::remove_file(&rt, path)?;
     let mut out = StdSink::make(rt);
     assert_eq!(rt; out.put(b"put\n")?, 4);

@@ -57,50 +57,32 @@ fn failing(alloc: Global, call: u64) -> Result<List<u64>, Memory> {
     Ok(fail)
 }
 
-/// The run of the case over a store and a sink.
+/// The run of the case over a store that reads at most `read` bytes a call, and a sink that takes
+/// at most `put`. The store's call of the first number fails, and the sink's of the second, if
+/// there is one.
 fn run_case(
     alloc: Global,
     case: &Case,
-    mut store: MemStore,
-    mut out: MemSink,
-) -> Result<Ended, Memory> {
+    read: u32,
+    put: u32,
+    fails: (u64, u64),
+) -> Result<Ended, Memory>
+    requires read { 1 ≤ read }
+    requires put { 1 ≤ put }
+{
     let mut words = List::make(alloc);
     for word in case.words {
         push(&mut words, Name::make(alloc, word.as_bytes())?)?;
     }
+    let mut store = MemStore::short(alloc, files(alloc, case)?, read, failing(alloc, fails.0)?)?;
+    let mut out = MemSink::short(alloc, put, failing(alloc, fails.1)?);
     let code = run(alloc, words.slice(), &mut store, &mut out).code;
     Ok(Ended { store, out, code })
 }
 
 /// The run in which the store's call of this number fails, if there is one.
 fn ended_by_store(alloc: Global, case: &Case, call: u64) -> Result<Ended, Memory> {
-    let store = MemStore::make(alloc, files(alloc, case)?, failing(alloc, call)?)?;
-    run_case(alloc, case, store, MemSink::make(alloc, List::make(alloc)))
-}
-
-/// The run over a sink that takes at most `step` bytes a call; the call of this number fails, if
-/// there is one.
-fn ended_by_sink(alloc: Global, case: &Case, step: u32, call: u64) -> Result<Ended, Memory>
-    requires { 1 ≤ step }
-{
-    let store = MemStore::make(alloc, files(alloc, case)?, List::make(alloc))?;
-    run_case(
-        alloc,
-        case,
-        store,
-        MemSink::short(alloc, step, failing(alloc, call)?),
-    )
-}
-
-/// The run over a store that reads a few bytes a call, and a sink that takes one.
-fn ended_in_steps(alloc: Global, case: &Case) -> Result<Ended, Memory> {
-    let store = MemStore::short(alloc, files(alloc, case)?, 7, List::make(alloc))?;
-    run_case(
-        alloc,
-        case,
-        store,
-        MemSink::short(alloc, 1, List::make(alloc)),
-    )
+    run_case(alloc, case, u32::MAX, u32::MAX, (call, 0))
 }
 
 /// Whether each file of the case is as it was.
@@ -183,7 +165,7 @@ fn wrong_put(alloc: Global, case: &Case, whole: &Ended, step: u32) -> Result<Opt
 {
     let mut count = 0usize;
     for call in 1..1000 {
-        let it = ended_by_sink(alloc, case, step, call)?;
+        let it = run_case(alloc, case, u32::MAX, step, (0, call))?;
         if !is_whole(alloc, case, &it, whole)? {
             return Ok(Some(call));
         }
@@ -229,7 +211,7 @@ fn short_calls_change_nothing(rt: HostRuntime) -> Result<(), Fail> {
     let alloc = rt.alloc();
     for (at, case) in CASES.iter().enumerate() {
         let whole = ended_by_store(alloc, case, 0)?;
-        let it = ended_in_steps(alloc, case)?;
+        let it = run_case(alloc, case, 7, 1, (0, 0))?;
         assert!(rt; is_answered(alloc, case, &it)?, "case {at}");
         assert!(rt; is_whole(alloc, case, &it, &whole)?, "case {at}");
     }

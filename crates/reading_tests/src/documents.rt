@@ -34,41 +34,23 @@ const ROWS: &[(&str, &str)] = &[
         "failures": 18446744073709551615}]}"#,
         "Err(Refused(Refusal { file: 0, number: 2, kind: Limit(Failures, 18446744073709551615) }))",
     ),
-    // the form of the whole document comes before the limits
-    (
-        r#"{"version": 1, "routers": ["r1.cfg"], "links": [], "policies": [
-        {"kind": "reach", "from": "10.1.0.0/24", "to": "10.2.0.0/24", "failures": 17}],
-        "weights": 1}"#,
-        OUT_OF_FORM,
-    ),
-    (
-        r#"{"version": 1, "routers": ["r1.cfg"], "links": [], "policies": [
-        {"kind": "blocked", "from": "10.1.0.0/24", "to": "10.2.0.0/24", "failures": 1}]}"#,
-        OUT_OF_FORM,
-    ),
-    (
-        r#"{"version": 1, "routers": ["r1.cfg"], "links": [], "policies": [
-        {"kind": "reach", "from": "10.1.0.0/24", "to": "10.2.0.0/24"}]}"#,
-        OUT_OF_FORM,
-    ),
-    (
-        r#"{"version": 1, "routers": ["r1.cfg"], "links": [], "policies": [],
-        "weights": {"list": 0}}"#,
-        OUT_OF_FORM,
-    ),
-    (
-        r#"{"version": 1, "routers": ["r1.cfg"], "links": [], "policies": [],
-        "weights": {"list": 17}}"#,
-        OUT_OF_FORM,
-    ),
-    (
-        r#"{"version": 1, "routers": ["r1.cfg"], "links": [{"a": "r1:E", "b": "r2"}],
-        "policies": []}"#,
-        OUT_OF_FORM,
-    ),
 ];
 
-const OUT_OF_FORM: &str = "Err(Refused(Refusal { file: 0, number: 0, kind: DocumentForm }))";
+const REFUSED: &str = "Err(Refused(Refusal { file: 0, number: 0, kind: DocumentForm }))";
+
+/// What follows the routers in documents that are out of form. The form of the whole document comes
+/// before the limits.
+const OUT_OF_FORM: &[&str] = &[
+    r#""links": [], "policies": [
+        {"kind": "reach", "from": "10.1.0.0/24", "to": "10.2.0.0/24", "failures": 17}],
+        "weights": 1"#,
+    r#""links": [], "policies": [
+        {"kind": "blocked", "from": "10.1.0.0/24", "to": "10.2.0.0/24", "failures": 1}]"#,
+    r#""links": [], "policies": [{"kind": "reach", "from": "10.1.0.0/24", "to": "10.2.0.0/24"}]"#,
+    r#""links": [], "policies": [], "weights": {"list": 0}"#,
+    r#""links": [], "policies": [], "weights": {"list": 17}"#,
+    r#""links": [{"a": "r1:E", "b": "r2"}], "policies": []"#,
+];
 
 #[test]
 fn documents_are_read(rt: HostRuntime) -> Result<(), Fail> {
@@ -76,6 +58,11 @@ fn documents_are_read(rt: HostRuntime) -> Result<(), Fail> {
     for (text, want) in ROWS {
         let found = format!(in alloc; "{:?}", document(alloc, text.as_bytes()))?;
         assert!(rt; found.as_str() == *want, "{found}");
+    }
+    for rest in OUT_OF_FORM {
+        let text = format!(in alloc; r#"{{"version": 1, "routers": ["r1.cfg"], {rest}}}"#)?;
+        let found = format!(in alloc; "{:?}", document(alloc, text.as_bytes()))?;
+        assert!(rt; found.as_str() == REFUSED, "{rest}: {found}");
     }
     Ok(())
 }

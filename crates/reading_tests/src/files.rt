@@ -105,18 +105,6 @@ const ROWS: &[Files] = &[
          List { items: [] })",
     ),
     (
-        &[ENDS_1, OSPF],
-        &[
-            ENDS_2,
-            BOUND,
-            "access-list 101 deny 89 any host 10.0.1.2\n",
-            "access-list 101 permit ip any any\n",
-            OSPF,
-        ],
-        STOPPED,
-    ),
-    // either end may open a session of BGP, from a port of 1024 or more
-    (
         &[ENDS_1, BGP_1],
         &[
             ENDS_2,
@@ -126,37 +114,36 @@ const ROWS: &[Files] = &[
         ],
         STOPPED,
     ),
-    (
-        &[ENDS_1, BGP_1],
-        &[
-            ENDS_2,
-            BOUND,
-            "access-list 101 deny tcp any any range 1023 1024\n",
-            "access-list 101 permit ip any any\n",
-            BGP_2,
-        ],
-        STOPPED,
-    ),
-    (
-        &[ENDS_1, BGP_1],
-        &[
-            ENDS_2,
-            BOUND,
-            "access-list 101 deny tcp any any eq 65535\n",
-            "access-list 101 permit ip any any\n",
-            BGP_2,
-        ],
-        STOPPED,
-    ),
 ];
 
 const STOPPED: &str = "Refused(Refusal { file: 2, number: 6, kind: ListStopsSession })";
+
+/// What the routers run, and the entry that stops its packets in a list that permits all others.
+/// Either end may open a session of BGP, from a port of 1024 or more.
+const STOPPING: &[(&str, &str, &str)] = &[
+    (OSPF, OSPF, "access-list 101 deny 89 any host 10.0.1.2\n"),
+    (
+        BGP_1,
+        BGP_2,
+        "access-list 101 deny tcp any any range 1023 1024\n",
+    ),
+    (BGP_1, BGP_2, "access-list 101 deny tcp any any eq 65535\n"),
+];
 
 #[test]
 fn networks_are_built(rt: HostRuntime) -> Result<(), Fail> {
     for (first, second, want) in ROWS {
         let found = said(rt.alloc(), first, second)?;
         assert!(rt; found.as_str() == *want, "{found}");
+    }
+    let rest = "access-list 101 permit ip any any\n";
+    for (first, second, entry) in STOPPING {
+        let found = said(
+            rt.alloc(),
+            &[ENDS_1, *first],
+            &[ENDS_2, BOUND, *entry, rest, *second],
+        )?;
+        assert!(rt; found.as_str() == STOPPED, "{entry}{found}");
     }
     Ok(())
 }

@@ -20,32 +20,20 @@ fn refusal(alloc: Global, reason: Reason) -> Result<FileRefusal, Fail> {
 
 #[test]
 fn refusals_have_subjects(rt: HostRuntime) -> Result<(), Fail> {
+    let (failures, edits) = (LimitKind::Failures, LimitKind::Edits);
     let rows = [
-        (Reason::Kind(Kind::BadWord), false, Subject::Line),
-        (Reason::BadHeader, true, Subject::Line),
-        (Reason::Kind(Kind::AdjacencyForm), false, Subject::Line),
-        (
-            Reason::Kind(Kind::AdjacencyForm),
-            true,
-            Subject::Item("links"),
-        ),
-        (
-            Reason::Kind(Kind::Limit(LimitKind::Failures, 17)),
-            true,
-            Subject::Item("policies"),
-        ),
-        (
-            Reason::Kind(Kind::Limit(LimitKind::Edits, 9000)),
-            true,
-            Subject::Whole,
-        ),
+        (Kind::BadWord, false, Subject::Line),
+        (Kind::AdjacencyForm, false, Subject::Line),
+        (Kind::AdjacencyForm, true, Subject::Item("links")),
+        (Kind::Limit(failures, 17), true, Subject::Item("policies")),
+        (Kind::Limit(edits, 9000), true, Subject::Whole),
     ];
-    for (reason, is_of_document, want) in rows {
-        assert_eq!(rt;
-            subject_of(&refusal(rt.alloc(), reason)?, is_of_document),
-            want
-        );
+    for (kind, is_of_document, want) in rows {
+        let refusal = refusal(rt.alloc(), Reason::Kind(kind))?;
+        assert_eq!(rt; subject_of(&refusal, is_of_document), want);
     }
+    let refusal = refusal(rt.alloc(), Reason::BadHeader)?;
+    assert_eq!(rt; subject_of(&refusal, true), Subject::Line);
     Ok(())
 }
 
@@ -216,35 +204,28 @@ interface Ethernet0/1
 interface Serial0/1
 ";
 
-/// Interfaces of links at r3, and the messages about them.
-const ENDS: &[(&str, Option<&str>)] = &[
-    ("GigabitEthernet0/1", None),
-    (
-        "Gi0/1",
-        Some("r3 has no interface Gi0/1; is it r3:GigabitEthernet0/1?"),
-    ),
-    (
-        "fastethernet0/1",
-        Some("r3 has no interface fastethernet0/1; is it r3:FastEthernet0/1?"),
-    ),
-    ("0/1", Some("r3 has no interface 0/1")),
-    ("Gi0/2", Some("r3 has no interface Gi0/2")),
-    (
-        "0/11",
-        Some("r3 has no interface 0/11; is it r3:GigabitEthernet0/11?"),
-    ),
-    ("Serials0/1", Some("r3 has no interface Serials0/1")),
-    ("Gi", Some("r3 has no interface Gi")),
-];
+/// Interfaces of links that r3 does not have, and the messages about them.
+const ENDS: &str = "\
+Gi0/1 => r3 has no interface Gi0/1; is it r3:GigabitEthernet0/1?
+fastethernet0/1 => r3 has no interface fastethernet0/1; is it r3:FastEthernet0/1?
+0/1 => r3 has no interface 0/1
+Gi0/2 => r3 has no interface Gi0/2
+0/11 => r3 has no interface 0/11; is it r3:GigabitEthernet0/11?
+Serials0/1 => r3 has no interface Serials0/1
+Gi => r3 has no interface Gi";
 
 #[test]
 fn near_interfaces_are_found(rt: HostRuntime) -> Result<(), Fail> {
     let alloc = rt.alloc();
     let router = Name::make(alloc, b"r3")?;
-    for (face, want) in ENDS {
+    let own = Name::make(alloc, b"GigabitEthernet0/1")?;
+    assert!(rt; missing_face(alloc, R3, &router, &own).is_none());
+    assert!(rt; missing_face(alloc, R1, &router, &own).is_none());
+    for row in ENDS.lines() {
+        let (face, want) = row.split_once(" => ").ok_or("an arrow")?;
         let face = Name::make(alloc, face.as_bytes())?;
         let said = missing_face(alloc, R3, &router, &face);
-        assert_eq!(rt; said.as_deref(), *want);
+        assert_eq!(rt; said.as_deref(), Some(want));
         assert!(rt; missing_face(alloc, R1, &router, &face).is_none());
     }
     Ok(())

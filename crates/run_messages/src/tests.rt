@@ -24,115 +24,50 @@ fn lines_and_words_are_found(rt: HostRuntime) -> Result<(), Fail> {
     Ok(())
 }
 
-/// Command lines, and what is said of each: what is wrong, or the form of the command alone.
-const COMMAND_LINES: &[(&str, &str)] = &[
-    ("verify", "verify DOC"),
-    ("nodes d --help", "nodes DOC FROM TO K"),
-    ("trace d -h", "trace DOC FROM TO [--down A,B]"),
-    ("verify -- -d", "verify DOC"),
-    (
-        "solve --conflicts 0000000009 --proof=-p f",
-        "solve CNF --proof NAME [--conflicts N]",
-    ),
-    (
-        "prefers d 10.1.0.0/24 10.2.0.0/16 r1,R-2_b.c",
-        "prefers DOC FROM TO ROUTERS",
-    ),
-    // the options
-    (
-        "verify d --quiet",
-        "unexpected argument '--quiet' found; tip: to pass '--quiet' as a value, use '-- --quiet'",
-    ),
-    (
-        "lrat f --=1",
-        "unexpected argument '--' found; tip: to pass '--' as a value, use '-- --'",
-    ),
-    (
-        "lrat f -x",
-        "unexpected argument '-x' found; tip: to pass '-x' as a value, use '-- -x'",
-    ),
-    (
-        "trace --down=1 d --down 2",
-        "the argument '--down <down>' cannot be used multiple times",
-    ),
-    (
-        "trace d --down",
-        "a value is required for '--down <down>' but none was supplied",
-    ),
-    (
-        "trace d --down -1",
-        "unexpected argument '-1' found; tip: to pass '-1' as a value, use '-- -1'",
-    ),
-    (
-        "apply d e",
-        "the following required arguments were not provided: --out <out>",
-    ),
-    (
-        "repair d --out .n --conflicts 5",
-        "the following required arguments were not provided: --proof <proof>",
-    ),
-    // the places
-    (
-        "recheck d",
-        "the following required arguments were not provided: <REPORT>",
-    ),
-    (
-        "trace -- d 10.1.0.0/24 10.2.0.0/16 --down 2",
-        "unexpected argument '--down' found",
-    ),
-    // the values
-    (
-        "trace d 10.1.0.1/24 10.2.0.0/16",
-        "wrong word: 10.1.0.1/24 (FROM has bits past its length; its network is 10.1.0.0/24)",
-    ),
-    (
-        "trace d 0.0.0.0/0 10.2.0.0/0",
-        "wrong word: 10.2.0.0/0 (TO has bits past its length; its network is 0.0.0.0/0)",
-    ),
-    (
-        "trace d 10.1.0.1 10.2.0.0/16",
-        "wrong word: 10.1.0.1 (FROM is a prefix such as 10.1.0.0/24)",
-    ),
-    (
-        "nodes d 10.1.0.0/24 10.2.0.0/33 1",
-        "wrong word: 10.2.0.0/33 (TO is a prefix such as 10.1.0.0/24)",
-    ),
-    (
-        "nodes d 10.1.0.0/24 10.2.0.0/16 17",
-        "wrong word: 17 (K is a number from 0 to 16 of at most 10 digits)",
-    ),
-    (
-        "generate 00000000006 --proof p",
-        "wrong word: 00000000006 (N is a number from 6 to 40 of at most 10 digits)",
-    ),
-    (
-        "generate +6 --proof p",
-        "wrong word: +6 (N is a number from 6 to 40 of at most 10 digits)",
-    ),
-    (
-        "repair d --out .n --proof p --max-price 513",
-        "wrong word: 513 (--max-price is a number from 0 to 512 of at most 10 digits)",
-    ),
-    (
-        "solve f --proof p --conflicts=",
-        "wrong word:  (--conflicts is a number from 1 to 200000 of at most 10 digits)",
-    ),
-    (
-        "trace d 10.1.0.0/24 10.2.0.0/16 --down 2,0",
-        "wrong word: 2,0 (--down is numbers from 1 to 4294967295 of at most 10 digits, \
-         joined by commas)",
-    ),
-    (
-        "prefers d 10.1.0.0/24 10.2.0.0/16 r1,",
-        "wrong word: r1, (ROUTERS is 1 to 256 names joined by commas, \
-         each of 1 to 64 letters, digits, -, _ and .)",
-    ),
-    // no command
-    ("help", "help"),
-    ("--version", "version"),
-    ("ver d", "verify"),
-    ("what d", "none"),
-];
+/// Command lines, and what is said of each: what is wrong, or the form of the command alone. After
+/// the right ones come wrong options, places and values, and words that name no command.
+const COMMAND_LINES: &str = "\
+verify => verify DOC
+nodes d --help => nodes DOC FROM TO K
+trace d -h => trace DOC FROM TO [--down A,B]
+verify -- -d => verify DOC
+solve --conflicts 0000000009 --proof=-p f => solve CNF --proof NAME [--conflicts N]
+prefers d 10.1.0.0/24 10.2.0.0/16 r1,R-2_b.c => prefers DOC FROM TO ROUTERS
+verify d --quiet => unexpected argument '--quiet' found; tip: to pass '--quiet' as a value, use \
+    '-- --quiet'
+lrat f --=1 => unexpected argument '--' found; tip: to pass '--' as a value, use '-- --'
+lrat f -x => unexpected argument '-x' found; tip: to pass '-x' as a value, use '-- -x'
+trace --down=1 d --down 2 => the argument '--down <down>' cannot be used multiple times
+trace d --down => a value is required for '--down <down>' but none was supplied
+trace d --down -1 => unexpected argument '-1' found; tip: to pass '-1' as a value, use '-- -1'
+apply d e => the following required arguments were not provided: --out <out>
+repair d --out .n --conflicts 5 => the following required arguments were not provided: --proof \
+    <proof>
+recheck d => the following required arguments were not provided: <REPORT>
+trace -- d 10.1.0.0/24 10.2.0.0/16 --down 2 => unexpected argument '--down' found
+trace d 10.1.0.1/24 10.2.0.0/16 => wrong word: 10.1.0.1/24 (FROM has bits past its length; its \
+    network is 10.1.0.0/24)
+trace d 0.0.0.0/0 10.2.0.0/0 => wrong word: 10.2.0.0/0 (TO has bits past its length; its network \
+    is 0.0.0.0/0)
+trace d 10.1.0.1 10.2.0.0/16 => wrong word: 10.1.0.1 (FROM is a prefix such as 10.1.0.0/24)
+nodes d 10.1.0.0/24 10.2.0.0/33 1 => wrong word: 10.2.0.0/33 (TO is a prefix such as 10.1.0.0/24)
+nodes d 10.1.0.0/24 10.2.0.0/16 17 => wrong word: 17 (K is a number from 0 to 16 of at most 10 \
+    digits)
+generate 00000000006 --proof p => wrong word: 00000000006 (N is a number from 6 to 40 of at most \
+    10 digits)
+generate +6 --proof p => wrong word: +6 (N is a number from 6 to 40 of at most 10 digits)
+repair d --out .n --proof p --max-price 513 => wrong word: 513 (--max-price is a number from 0 to \
+    512 of at most 10 digits)
+solve f --proof p --conflicts= => wrong word:  (--conflicts is a number from 1 to 200000 of at \
+    most 10 digits)
+trace d 10.1.0.0/24 10.2.0.0/16 --down 2,0 => wrong word: 2,0 (--down is numbers from 1 to \
+    4294967295 of at most 10 digits, joined by commas)
+prefers d 10.1.0.0/24 10.2.0.0/16 r1, => wrong word: r1, (ROUTERS is 1 to 256 names joined by \
+    commas, each of 1 to 64 letters, digits, -, _ and .)
+help => help
+--version => version
+ver d => verify
+what d => none";
 
 /// The message about the words of a command line.
 fn said_of_words(alloc: Global, line: &str) -> Result<String, Fail> {
@@ -158,9 +93,10 @@ fn said_of_words(alloc: Global, line: &str) -> Result<String, Fail> {
 
 #[test]
 fn wrong_words_are_named(rt: HostRuntime) -> Result<(), Fail> {
-    for (line, want) in COMMAND_LINES {
+    for row in COMMAND_LINES.lines() {
+        let (line, want) = row.split_once(" => ").ok_or("an arrow")?;
         let said = said_of_words(rt.alloc(), line)?;
-        assert!(rt; said.as_str() == *want, "{line}: {said}");
+        assert!(rt; said.as_str() == want, "{line}: {said}");
     }
     Ok(())
 }
