@@ -10,7 +10,8 @@ use Rattle.net_model.specs.Policies.{CrossesWaypoint}
 use Rattle.any_forwarding_laws.specs.Forwardings.{Way, IsCarried}
 use Rattle.any_forwarding_laws.specs.Copies.{HasWay, Covers}
 use Rattle.any_forwarding_laws.specs.Laws.{CarriesAlike, CoveredDeliveriesAreCarried, ClosedCopiesStop, ClosedCopiesForceWaypoints, CoversInTurn}
-use Rattle.any_forwarding_laws.proofs.Ways.{OverWaypoint, Any-here, Any-there, crosses_none, in_a_row, more}
+use Rattle.net_laws.proofs.ClosedSides.{Any-here, Any-there}
+use Rattle.any_forwarding_laws.proofs.Ways.{OverWaypoint, crosses_none, in_a_row, more}
 use Rattle.any_forwarding_laws.proofs.ClosedSides.{blocked_carries_none, through_crosses}
 
 module _ (copy net : Network) (copied ends : Ends) (class : Class) (covers : Covers copy copied net ends class) (p : Packet) (of : IsOfClass class p) where

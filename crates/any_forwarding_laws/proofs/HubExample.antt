@@ -6,9 +6,10 @@ use Rattle.net_model.specs.declared.policies.Class.{Class}
 use Rattle.net_model.specs.declared.rows.FaceRow.{FaceRow}
 use Rattle.net_model.specs.declared.rows.LinkRow.{LinkRow}
 use Rattle.net_model.proofs.Arcs.{one_item}
+use Rattle.net_laws.specs.Square.{link as joining}
 use Rattle.any_forwarding_laws.specs.Copies.{IsWiderFace, HasWiderFaces}
 use Rattle.any_forwarding_laws.specs.Hubs.{IsHubFace, HasSpoke, IsKeptOrSpoked}
-use Rattle.any_forwarding_laws.specs.HubExample.{at_router, joining, on_a_lan, at_a_hub, ExampleHasHub}
+use Rattle.any_forwarding_laws.specs.HubExample.{at_router, on_a_lan, at_a_hub, ExampleHasHub}
 
 module _ (class : Class) where
   wide_at : (place router : ℕ) → slice_get on_a_lan.faces place ≡ Some (at_router router) → slice_get at_a_hub.faces place ≡ Some (at_router router) →

@@ -10,20 +10,12 @@ use Rattle.net_model.specs.declared.rows.Network.{Network}
 use Rattle.net_model.specs.Packets.{IsOfClass}
 use Rattle.net_model.specs.Routing.{Arc, tail_end, head_end, tail_face, head_face, tail_router, head_router}
 use Rattle.net_model.specs.Forwarding.{Ends, ListPermits, ArcPermits, Enters, Leaves, source_router, target_router}
+use Rattle.net_laws.proofs.PathDistances.{other_tail, other_head}
 use Rattle.any_forwarding_laws.specs.Forwardings.{IsUpArc}
 use Rattle.any_forwarding_laws.specs.Copies.{HasWay, IsWiderFace, HasWiderFaces}
 use Rattle.any_forwarding_laws.specs.Hubs.{HasSpoke, StandsFor, HubsCover}
 use Rattle.any_forwarding_laws.proofs.Ways.{OverWaypoint, crosses_one, in_a_row}
 use Rattle.any_forwarding_laws.proofs.Wider.{wide_arc, enters_wide, leaves_wide}
-
--- the other way round a link begins where it ended
-turned_tail : (row : LinkRow) (from_a : Bool) → tail_end row (not from_a) ≡ head_end row from_a
-turned_tail row true = refl
-turned_tail row false = refl
-
-turned_head : (row : LinkRow) (from_a : Bool) → head_end row (not from_a) ≡ tail_end row from_a
-turned_head row true = refl
-turned_head row false = refl
 
 module _ (copy : Network) (class : Class) (hub : ℕ) (p : Packet) (of : IsOfClass class p) (place : ℕ) (wide : FaceRow) (at : slice_get copy.faces place ≡ Some wide)
     (may : Type 0) (spoke : HasSpoke copy class hub place may) (up : IsTrue wide.up) where
@@ -56,8 +48,8 @@ module _ (copy : Network) (class : Class) (hub : ℕ) (p : Packet) (of : IsOfCla
           record {
             is_arc = record {
               link = spoke.at_link;
-              tail = subst (λ (f : Face). slice_get copy.faces f.0 ≡ Some spoke.far) (sym (turned_tail spoke.row spoke.inward)) spoke.at_far;
-              head = subst (λ (f : Face). slice_get copy.faces f.0 ≡ Some wide) (sym (turned_head spoke.row spoke.inward)) at_near;
+              tail = subst (λ (f : Face). slice_get copy.faces f.0 ≡ Some spoke.far) (sym (other_tail spoke.row spoke.inward)) spoke.at_far;
+              head = subst (λ (f : Face). slice_get copy.faces f.0 ≡ Some wide) (sym (other_head spoke.row spoke.inward)) at_near;
             };
             tail = spoke.at_hub.up;
             head = up;

@@ -5,14 +5,9 @@ use Rattle.net_model.specs.declared.lists.Packet.{Packet}
 use Rattle.net_model.specs.declared.rows.Network.{Network}
 use Rattle.net_model.specs.Routing.{Arc, head_router}
 use Rattle.net_model.specs.Policies.{CrossesWaypoint}
+use Rattle.net_laws.proofs.ClosedSides.{Any-here, Any-there}
 use Rattle.any_forwarding_laws.specs.Forwardings.{Forwarding, Way, Sends}
 use Rattle.any_forwarding_laws.specs.Copies.{HasWay}
-
-pub Any-here : {X : Type 0} (P : X → Type 0) (x : X) (xs : List X) → P x → Any P (x ∷ xs)
-Any-here P x xs h = (0, x, omega arith, refl, h)
-
-pub Any-there : {X : Type 0} (P : X → Type 0) (x : X) (xs : List X) → Any P xs → Any P (x ∷ xs)
-Any-there P x xs h = (suc h.0, h.1, omega (arith, h.2), h.3, h.4)
 
 -- what holds of some item of two lists in a row holds of one of the first or of the second
 pub Any-split : {X : Type 0} (P : X → Type 0) (xs ys : List X) → Any P (xs ++ ys) → Any P xs ⊎ Any P ys

@@ -1,19 +1,15 @@
 -- Three gateways on a LAN, and a copy of them with a hub.
-use Rattle.std.specs.Prelude.{ℕ, false, [], ◌∷◌, codes}
+use Rattle.std.specs.Prelude.{ℕ, [], ◌∷◌, codes}
 use Rattle.net_model.specs.declared.policies.Class.{Class}
 use Rattle.net_model.specs.declared.rows.FaceRow.{FaceRow}
-use Rattle.net_model.specs.declared.rows.LinkRow.{LinkRow}
 use Rattle.net_model.specs.declared.rows.Network.{Network}
 use Rattle.net_laws.specs.Examples.{end_1, two_routers}
+use Rattle.net_laws.specs.Square.{link as joining}
 use Rattle.any_forwarding_laws.specs.Hubs.{HasHub}
 
 -- an interface of this router that is up and has no lists
 abbrev pub at_router : ℕ → FaceRow
 at_router router = record end_1 { router = record { 0 = router } }
-
--- a link between the interfaces at these places
-abbrev pub joining : ℕ → ℕ → LinkRow
-joining a b = record { a = record { 0 = a }; b = record { 0 = b }; waypoint = false }
 
 -- three gateways on a LAN, with a link between each two
 abbrev pub on_a_lan : Network

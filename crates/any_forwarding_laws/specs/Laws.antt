@@ -1,7 +1,6 @@
 -- Laws of any forwarding. In an open network closed sides stop every forwarding, not only that of
 -- the routing protocol; and a verdict on a copy holds for each network that the copy covers.
-use Rattle.std.specs.Prelude.{◌≡◌, ◌↔◌, ℕ, IsTrue, IsFalse, IsSome, Some, List, All}
-use Rattle.std.specs.Prelude.{slice_get}
+use Rattle.std.specs.Prelude.{◌≡◌, ◌↔◌, ℕ, IsTrue, IsFalse, IsSome, Some, List, All, slice_get}
 use Rattle.net_model.specs.declared.lists.Packet.{Packet}
 use Rattle.net_model.specs.declared.policies.Class.{Class}
 use Rattle.net_model.specs.declared.policies.Policy.{Policy}
@@ -20,8 +19,7 @@ use Rattle.net_model.specs.Policies.{CrossesWaypoint, IsBlocked, GoesThrough}
 use Rattle.net_model.specs.Witnesses.{is_yes, IsRightClosed, IsRightWalk, IsRight}
 use Rattle.any_forwarding_laws.specs.Forwardings.{IsCarried, NoneDelivers, EachCrosses}
 use Rattle.any_forwarding_laws.specs.Forwardings.{IsOpenNetwork}
-use Rattle.any_forwarding_laws.specs.Copies.{HasWay, Covers, IsWiderFace, IsWider}
-use Rattle.any_forwarding_laws.specs.Copies.{LeadsOverHub}
+use Rattle.any_forwarding_laws.specs.Copies.{HasWay, Covers, IsWiderFace, IsWider, LeadsOverHub}
 use Rattle.net_laws.specs.Examples.{two_routers}
 
 -- in an open network right closed sides for blocked show that no forwarding delivers a packet of

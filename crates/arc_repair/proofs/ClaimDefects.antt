@@ -26,7 +26,7 @@ module _ (net : Network) (doc : Document) (list : List Edit) where
   flags_of (Repaired price bound flags verdicts) are has = has list are
   flags_of (NoRepair bound) are has = tt
 
-  not_mispriced : (price bound : ℕ) (flags : List Bool) → price_of_flags doc list flags ≡ price → price ≤ bound → bound ≤ 512 → IsMispriced doc list price bound flags → ⊥
+  pub not_mispriced : (price bound : ℕ) (flags : List Bool) → price_of_flags doc list flags ≡ price → price ≤ bound → bound ≤ 512 → IsMispriced doc list price bound flags → ⊥
   not_mispriced price bound flags costs affordable few (inl wrong) = wrong costs
   not_mispriced price bound flags costs affordable few (inr (inl above)) = omega (arith, above, affordable)
   not_mispriced price bound flags costs affordable few (inr (inr above)) = omega (arith, above, few)

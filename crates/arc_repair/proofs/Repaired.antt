@@ -1,6 +1,6 @@
 -- The claim of a repair, from the verdicts in the network after its edits.
-use Rattle.std.proofs.Common.{◌≡◌, ◌≤◌, ℕ, zero, suc, Bool, Option, Some, None, List, [], length, IsTrue, refl, sym, ◌∙◌, ap, subst, arith}
-use Rattle.std.specs.Prelude.{All, IfSome}
+use Rattle.std.proofs.Common.{◌≡◌, ◌≤◌, ℕ, zero, suc, Bool, List, [], length, IsTrue, refl, sym, ◌∙◌, ap, subst, arith}
+use Rattle.std.specs.Prelude.{All}
 use Rattle.net_model.specs.declared.policies.Document.{Document}
 use Rattle.net_model.specs.declared.rows.Network.{Network}
 use Rattle.net_model.specs.declared.verdicts.Verdict.{Verdict}
@@ -84,7 +84,3 @@ pub meets_there : (net : Network) (doc : Document) (list : List Edit) (flags : L
     IsAfter net (chosen_of list flags) after → Mends net doc list flags → All (Meets after) doc.policies
 meets_there net doc list flags after valid countable is mends =
     subst (λ (n : Network). All (Meets n) doc.policies) (after_is_one net valid countable (chosen_of list flags) mends.after after mends.is_after is) mends.meets
-
-pub if_some_along : {X : Type 0} (P Q : X → Type 0) (o : Option X) → ((x : X) → P x → Q x) → IfSome o P → IfSome o Q
-if_some_along P Q None along h = tt
-if_some_along P Q (Some x) along h = along x h

@@ -2,9 +2,8 @@
 ghost use Rattle.arc_outside.specs.Causes.{Rose, RoseWhere};
 ghost use Rattle.arc_outside.specs.Reads.{TookMore, TookOn};
 ghost use Rattle.arc_run.specs.Headline.{Tells};
-ghost use Rattle.arc_run.specs.Outcomes.{HasOutcomeCause, IsCommandAnswer, IsDefined, IsOwn};
-ghost use Rattle.arc_run.specs.Outcomes.{IsRefusal};
-ghost use Rattle.arc_run.specs.Outcomes.{status_of, outcome_text};
+ghost use Rattle.arc_run.specs.Outcomes.{HasOutcomeCause, IsCommandAnswer, IsDefined, outcome_text};
+ghost use Rattle.arc_run.specs.Outcomes.{IsOwn, IsRefusal, status_of};
 ghost use Rattle.arc_run.specs.Runs.{LeavesOutcome, Runs};
 ghost use Rattle.command_words.specs.Commands.{command_of, HasLimit};
 ghost use Rattle.run_files.specs.Answers.{Answers, OnlyReads};

@@ -2,13 +2,13 @@
 use Rattle.std.proofs.Common.{◌≡◌, ◌∙◌, ℕ, inl, inr, Bool, true, false, cond, List, [], ◌∷◌, map, refl, sym, ap, subst}
 use Rattle.std.specs.Prelude.{◌||◌, bytes_eq, Contains}
 use Rattle.std.specs.List.{list_any}
-use Rattle.std.proofs.lemmas.Bool.{false≢true, or_parts}
+use Rattle.std.proofs.lemmas.Bool.{or_parts}
 use Rattle.arc_base.proofs.Items.{All-from, Contains-cases, Contains-head, Contains-none, Contains-tail}
 use Rattle.arc_outside.specs.Files.{Files, with_files}
+use Rattle.arc_outside.proofs.OnShelf.{held_before, with_files-push}
 use Rattle.net_model.specs.declared.policies.Document.{Document}
 use Rattle.file_copies.specs.Outputs.{clashes, copies, copy_name, copy_names}
-use Rattle.file_copies.proofs.Copied.{texts_same}
-use Rattle.file_copies.proofs.OneMore.{IsFreeLast, free_last, other_kept, written_last}
+use Rattle.file_copies.proofs.OneMore.{IsFreeLast, free_last, none_is}
 use Rattle.file_copies.proofs.ReadAgain.{unchanged_kept}
 use Rattle.command_words.specs.declared.commands.RepairWords.{RepairWords}
 use Rattle.run_files.specs.declared.limits.Limits.TheVariants.{Editing}
@@ -19,15 +19,6 @@ use Rattle.arc_repair.specs.declared.answer.Answer.{Answer}
 use Rattle.arc_repair.specs.declared.answer.Answer.TheVariants.{Done as Claimed, Budget}
 use Rattle.edit_list.specs.declared.claims.Claim.TheVariants.{Repaired, NoRepair}
 use Rattle.repair_commands.specs.Repairs.{IsRepaired, Writes, WritesAnswer}
-
-none_is : (names : List (List ℕ)) (output name : List ℕ) → list_any (λ other. bytes_eq other output) names ≡ false → Contains names name → name ≡ output → ⊥
-none_is [] output name none within same = Contains-none name within
-none_is (x ∷ names) output name none within same =
-    let parts = or_parts (bytes_eq x output) (list_any (λ other. bytes_eq other output) names) none in
-    elim (Contains-cases x name names within) [
-      | inl here ↦ false≢true (sym parts.0 ∙ texts_same x output (here ∙ same))
-      | inr later ↦ none_is names output name parts.1 later same
-    ]
 
 -- if names do not clash, no output is an input
 apart : (inputs outputs : List (List ℕ)) (output input : List ℕ) → clashes inputs outputs ≡ false → Contains outputs output → Contains inputs input → input ≡ output → ⊥
@@ -70,8 +61,8 @@ module _ (words : RepairWords) (before : Files) (done : Done) (is : IsRepaired w
       → (q : List ℕ) → Contains (words.document ∷ is.doc.routers) q → with_files changed before q ≡ before q → with_files done.writes before q ≡ before q
   kept_by told changed certificate status writes q within same =
       ap (λ (pairs : List (List ℕ × List ℕ)). with_files pairs before q) writes.writes
-      ∙ ap (λ (f : Files). f q) (written_last changed words.proof certificate before)
-      ∙ other_kept (with_files changed before) words.proof certificate q (λ e. free.of_inputs q within (sym e))
+      ∙ ap (λ (f : Files). f q) (with_files-push changed words.proof certificate before)
+      ∙ held_before (with_files changed before) words.proof certificate q (λ e. free.of_inputs q within (sym e))
       ∙ same
 
   kept_as : (answer : Answer) → WritesAnswer words is.doc is.built (contents before is.doc) is.list answer done → (q : List ℕ) → Contains (words.document ∷ is.doc.routers) q

@@ -2,13 +2,14 @@
 use Rattle.std.proofs.Common.{◌≡◌, ◌⊎◌, ◌∙◌, ◌≤◌, ℕ, inl, inr, List, [], length, refl, ap, arith}
 use Rattle.std.specs.Prelude.{Some}
 use Rattle.arc_outside.specs.Files.{Files, with_files}
+use Rattle.arc_outside.proofs.OnShelf.{with_files-push}
 use Rattle.edit_list.specs.declared.claims.Claim.{Claim}
 use Rattle.edit_list.specs.declared.claims.Claim.TheVariants.{Repaired, NoRepair}
 use Rattle.proof_log.specs.declared.steps.Log.{Log}
 use Rattle.policy_report.specs.Certificates.{certificate_text}
 use Rattle.arc_repair.specs.declared.answer.Answer.{Answer}
 use Rattle.arc_repair.specs.declared.answer.Answer.TheVariants.{Done as Claimed, Budget}
-use Rattle.file_copies.proofs.OneMore.{is_written, written_last}
+use Rattle.file_copies.proofs.OneMore.{is_written}
 use Rattle.command_words.specs.declared.commands.RepairWords.{RepairWords}
 use Rattle.run_files.specs.declared.limits.Limits.TheVariants.{Editing}
 use Rattle.run_files.specs.declared.outcome.Done.{Done}
@@ -35,7 +36,7 @@ module _ (known : Known) (words : RepairWords) (before : Files) (done : Done) (i
       → with_files done.writes before words.proof ≡ Some certificate
   written told changed certificate status writes =
       ap (λ (pairs : List (List ℕ × List ℕ)). with_files pairs before words.proof) writes.writes
-      ∙ ap (λ (f : Files). f words.proof) (written_last changed words.proof certificate before)
+      ∙ ap (λ (f : Files). f words.proof) (with_files-push changed words.proof certificate before)
       ∙ is_written (with_files changed before) words.proof certificate
 
   by_answer : (answer : Answer) → is.answer ≡ answer → WritesAnswer words is.doc is.built (contents before is.doc) is.list answer done → (done.status ≡ 0) ⊎ (done.status ≡ 2)

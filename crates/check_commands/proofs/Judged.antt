@@ -7,23 +7,17 @@ use Rattle.net_model.specs.declared.policies.Document.{Document}
 use Rattle.run_files.specs.declared.outcome.Done.{Done}
 use Rattle.run_files.specs.declared.outcome.Stop.{Stop}
 use Rattle.run_files.specs.declared.outcome.Stop.TheVariants as stops
-use Rattle.run_files.specs.Answers.{Answers, Gives, IsJudging}
+use Rattle.run_files.specs.Answers.{Answers, IsJudging}
 use Rattle.run_files.specs.Limits.{proof_limit}
-use Rattle.run_files.specs.Refusals.{read_refusal}
-use Rattle.run_inputs.specs.Inputs.{HoldsDocument, ReadsDocumentAt}
-use Rattle.check_commands.specs.ReportChecks.{IsChecked, RefusesInput}
+use Rattle.run_inputs.specs.Inputs.{ReadsDocumentAt}
 use Rattle.check_commands.specs.Readings.{ReadsHead}
 use Rattle.check_commands.specs.RepairChecks.{HoldsRepair, IsAnyChecked, IsAnyRefusal}
 use Rattle.check_commands.proofs.Given.{IsGiven}
+use Rattle.check_commands.proofs.ReportTold.{IsGiven as GivesReport}
 
 -- the answer over a store
 abbrev pub IsAnswered : List ℕ → List ℕ → Option Files → Result Done Stop → Type 0
 IsAnswered document certificate held result = Answers IsJudging (IsAnyRefusal document certificate) (IsAnyChecked document certificate) held result
-
--- the answer for a report, over a store that holds it and the document
-abbrev pub GivesReport : List ℕ → List ℕ → Document → Option Files → Result Done Stop → Type 0
-GivesReport document certificate doc held result =
-    IfSome held (λ files. HoldsDocument document files doc → read_refusal proof_limit files certificate ≡ None → Gives (RefusesInput document files) (IsChecked document certificate files) result)
 
 module _ (document certificate : List ℕ) (doc : Document) where
   -- the first reading refuses the certificate

@@ -102,7 +102,7 @@ judged held now later same still cnf proof checker judgement done formula tried 
     judged_here held cnf proof checker judgement done formula (subst P same tried) (subst Q (still ∙ same) told)
 
 -- what each status says
-one_formula : (text : List ℕ) (f g : Formula) → reading text ≡ Ok f → reading text ≡ Ok g → f ≡ g
+pub one_formula : (text : List ℕ) (f g : Formula) → reading text ≡ Ok f → reading text ≡ Ok g → f ≡ g
 one_formula text f g e h = cc
 
 refuted_or_not : (cnf proof : List ℕ) (files : Files) → IsRefuted cnf proof files → IsNotRefuted cnf proof files → ⊥

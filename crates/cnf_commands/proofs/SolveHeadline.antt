@@ -28,20 +28,13 @@ use Rattle.cnf_commands.specs.Lrats.{IsRefuted}
 use Rattle.cnf_commands.specs.Lrats.{lrat_refusal}
 use Rattle.run_files.specs.Limits.{proof_limit}
 use Rattle.run_files.specs.Refusals.{bytes_at, read_refusal, refusal_of, refusal_within}
-use Rattle.run_files.proofs.OneAnswer.{refused_none}
+use Rattle.run_files.proofs.OneAnswer.{first_none, refused_none, second_none}
 use Rattle.std.specs.Option.{option_or}
 use Rattle.cnf_commands.specs.Solves.{found_status, name_refusal, solve_refusal, IsSearchResult, IsSolved, IsSolveRefusal}
 use Rattle.cnf_commands.proofs.FormulaVariables.{formula_is_good}
+use Rattle.cnf_commands.proofs.Refuting.{one_formula}
 
 -- ---- refusals
-
-first_none : (o s : Option FileRefusal) → option_or o s ≡ None → o ≡ None
-first_none None s e = refl
-first_none (Some r) s e = absurd (cc)
-
-second_none : (o s : Option FileRefusal) → option_or o s ≡ None → s ≡ None
-second_none None s e = e
-second_none (Some r) s e = absurd (cc)
 
 apart : (words : SolveWords) (files : Files) → solve_refusal words files ≡ None → bytes_eq words.proof words.formula ≡ false
 apart words files held = go (bytes_eq words.proof words.formula) refl (second_none (cnf_refusal words.formula files) (name_refusal words) held)
@@ -158,9 +151,6 @@ module _ (words : SolveWords) (files : Files) (d : Done) (done : IsSolved words 
   both yes' no' =
       let same : yes'.formula ≡ no'.formula = one_formula (bytes_at files words.formula) yes'.formula no'.formula yes'.formula_is no'.formula_is in
       no'.unsatisfiable yes'.assignment (subst (λ (f : Formula). Satisfies yes'.assignment f) same yes'.satisfies)
-    where
-      one_formula : (text : List ℕ) (f g : Formula) → reading text ≡ Ok f → reading text ≡ Ok g → f ≡ g
-      one_formula text f g e h = cc
 
   tells : (found : Found) → done.found ≡ found → TellsSolution words d.status files (with_files d.writes files)
   tells (Model values) is =

@@ -4,15 +4,8 @@ ghost use Rattle.clap.specs.Simple.{app_of, with_rule, with_subcommand};
 ghost use Rattle.clap.specs.Words.{rule_of};
 ghost use Rattle.command_words.specs.Commands.{form_of_row};
 ghost use Rattle.std.specs.Prelude.{◌≡◌, IfOk, fold, map, false, true};
-ghost use Rattle.command_words.specs.Grammar.{
-  bare,
-  command_app,
-  option,
-  positional,
-  with_form,
-  with_option,
-  with_place,
-};
+ghost use Rattle.command_words.specs.Grammar.{bare, command_app, option, positional, with_form};
+ghost use Rattle.command_words.specs.Grammar.{with_option, with_place};
 
 use crate::forms::{CommandForm, CommandOption};
 use arc_base::Memory;

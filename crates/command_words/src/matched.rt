@@ -4,22 +4,10 @@ ghost use Rattle.clap.specs.Words.{first_of, found_of, rows_of};
 ghost use Rattle.std.specs.Prelude.{◌≡◌, ◌≤◌, ◌<◌, ◌^◌, IfOk, MatchOption, MatchResult, None, Some};
 ghost use Rattle.std.specs.Prelude.{codes, option_and_then};
 ghost use Rattle.std.specs.Result.{result_ok};
-ghost use Rattle.command_words.specs.Commands.{
-  apply_by,
-  check_by,
-  command_by,
-  generate_by,
-  links_or_none,
-  lrat_by,
-  nodes_by,
-  number_or,
-  prefers_by,
-  recheck_by,
-  repair_by,
-  solve_by,
-  trace_by,
-  verify_by,
-};
+ghost use Rattle.command_words.specs.Commands.{apply_by, check_by, command_by, generate_by};
+ghost use Rattle.command_words.specs.Commands.{links_or_none, lrat_by, nodes_by, number_or};
+ghost use Rattle.command_words.specs.Commands.{prefers_by, recheck_by, repair_by, solve_by};
+ghost use Rattle.command_words.specs.Commands.{trace_by, verify_by};
 ghost use Rattle.command_words.specs.Values.{number_within, router_names};
 
 use crate::commands::{

@@ -5,14 +5,8 @@ ghost use Rattle.arc_base.specs.PrefixText.{prefix_of};
 ghost use Rattle.std.specs.List.{list_all};
 ghost use Rattle.std.specs.Prelude.{◌≡◌, ◌≤◌, ◌<◌, ◌^◌, IfOk, MatchResult, None, Some};
 ghost use Rattle.std.specs.Result.{result_ok};
-ghost use Rattle.command_words.specs.Values.{
-  comma_words,
-  link_number,
-  link_numbers,
-  number_within,
-  prefix_fault,
-  router_names,
-};
+ghost use Rattle.command_words.specs.Values.{comma_words, link_number, link_numbers, number_within};
+ghost use Rattle.command_words.specs.Values.{prefix_fault, router_names};
 
 use arc_base::limits::ROUTER_LIMIT;
 use arc_base::{

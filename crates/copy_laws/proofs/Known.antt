@@ -1,7 +1,6 @@
 -- Where a router has a modelled route it forwards as the model does: so what the model says of packets holds, whatever the others do.
-use Rattle.std.proofs.Common.{◌≡◌, ℕ, zero, suc, ◌+◌, ◌<◌, ◌≤◌, inl, inr, Option, Some, None, List, [], ◌∷◌, ◌++◌, length, ap, refl, sym, ◌∙◌, subst, arith}
-use Rattle.std.specs.Prelude.{IsTrue, is_some}
-use Rattle.std.proofs.lemmas.Bool.{false≢true}
+use Rattle.std.proofs.Common.{◌≡◌, ℕ, zero, suc, ◌+◌, ◌<◌, ◌≤◌, inl, inr, Some, None, List, [], ◌∷◌, ◌++◌, length, ap, refl, sym, ◌∙◌, subst, arith}
+use Rattle.std.specs.Prelude.{IsTrue}
 use Rattle.std.proofs.lemmas.Bool.Decides.{eqb_tells}
 use Rattle.std.proofs.lemmas.Option.{same_Some}
 use Rattle.arc_base.specs.declared.prefix.Prefix.{Prefix}
@@ -13,12 +12,11 @@ use Rattle.net_model.specs.Forwarding.{Ends, AreEnds, Attains, ArcPermits, Walk,
 use Rattle.copy_laws.proofs.Sound.{IsSound, sound_valid, costs_one, head_within, source_within, offer_of}
 use Rattle.copy_laws.specs.Passing.{HoldsFor}
 use Rattle.net_model.specs.declared.policies.PolicyKind.TheVariants.{Reach}
-use Rattle.net_laws.proofs.RightCuts.{value_of, stuck_at_source}
+use Rattle.net_laws.proofs.Existence.{apart}
+use Rattle.net_laws.proofs.RightCuts.{stuck_at_source}
+use Rattle.net_laws.proofs.StableMaps.{value_of}
 use Rattle.copy_laws.proofs.Mirrors.{arc_decided, leaves_decided}
 use Rattle.copy_laws.specs.Beyond.{NextHops, AgreesWhereKnown, NoneComesBack, WalkBy, SendsOn, IsSureFrom, IsSure, PacketIsSure, DeliversAsModel, ReachIsSure, BlockedStays, ThroughStays}
-
-no_value : (o : Option ℕ) (n : ℕ) → o ≡ None → o ≡ Some n → ⊥
-no_value o n none some = false≢true (ap is_some (sym none ∙ some))
 
 module _ (net : Network) (to : Prefix) (failed : FailureSet) (d : DistanceMap) (sends : NextHops) (agrees : AgreesWhereKnown net to failed d sends)
     (back : NoneComesBack d sends) (p : Packet) where
@@ -32,7 +30,7 @@ module _ (net : Network) (to : Prefix) (failed : FailureSet) (d : DistanceMap) (
   modelled : (arcs : List Arc) (u v n : ℕ) → d v ≡ Some n → WalkBy net sends p u arcs v → Walk net to failed d p u arcs v
   modelled [] u v n known walk = walk
   modelled (arc ∷ arcs) u v n known walk = elim (value_of (d (tail_router arc))) [
-    | inl none ↦ absurd (no_value (d v) n (stays_lost arcs (head_router arc) v walk.3 (back arc walk.1 none)) known)
+    | inl none ↦ absurd (apart (d v) n (stays_lost arcs (head_router arc) v walk.3 (back arc walk.1 none)) known)
     | inr some ↦ (walk.0, agrees.only arc some.0 some.1 walk.1, walk.2, modelled arcs (head_router arc) v n known walk.3)
   ]
 

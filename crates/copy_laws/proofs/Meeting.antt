@@ -65,8 +65,6 @@ module _ (net copy : Network) (p : Packet) (failed lost : FailureSet) (ends othe
 
   reach_to : Carries copy net p → (Enters copy others p → Enters net ends p) → (Leaves copy others p → Leaves net ends p) →
       (kind : PolicyKind) → IsReach kind → HoldsFor copy (to_of others ends.to) p kind lost → HoldsFor net ends p kind failed
-  reach_to carries enters leaves Blocked reach holds = absurd reach
-  reach_to carries enters leaves Through reach holds = absurd reach
   reach_to carries enters leaves (Reach k) reach holds = λ d stable.
       let got : Enters copy (to_of others ends.to) p × ((arcs : List Arc) → ¬ IsStuck copy (to_of others ends.to) lost d p arcs) =
       holds d (stable_moved d stable) in (
@@ -82,6 +80,7 @@ module _ (net copy : Network) (p : Packet) (failed lost : FailureSet) (ends othe
               stuck = s.3;
             }),
       )
+  reach_to carries enters leaves other reach holds = absurd reach
 
 -- the ends of the copy with their own host network
 pub barred_for : (net copy : Network) (p : Packet) (failed lost : FailureSet) (ends others : Ends) → AreAlike ends others → Mirrors net copy ends.to failed lost →
@@ -128,9 +127,8 @@ clear_there net copy class lost ends others alike m carries clear =
 pub barred_as : (net copy : Network) (class : Class) (ends others : Ends) (kind : PolicyKind) → IsBarring kind → (lost : FailureSet → FailureSet) →
     ((failed : FailureSet) → HoldsUnder copy others class kind (lost failed) → HoldsUnder net ends class kind failed) →
     MeetsAs copy others class kind → MeetsAs net ends class kind
-barred_as net copy class ends others Blocked barring lost each meets = λ failed. each failed (meets (lost failed))
-barred_as net copy class ends others Through barring lost each meets = λ failed. each failed (meets (lost failed))
 barred_as net copy class ends others (Reach k) barring lost each meets = absurd barring
+barred_as net copy class ends others other barring lost each meets = λ failed. each failed (meets (lost failed))
 
 pub reach_as : (net copy : Network) (class : Class) (ends others : Ends) (k j : ℕ) (lost : FailureSet → FailureSet) →
     ((failed : FailureSet) → failures net failed ≤ k → failures copy (lost failed) ≤ j) →

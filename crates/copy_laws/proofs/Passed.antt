@@ -5,15 +5,16 @@ use Rattle.net_model.specs.declared.lists.Packet.{Packet}
 use Rattle.net_model.specs.declared.policies.Class.{Class}
 use Rattle.net_model.specs.declared.policies.Policy.{Policy}
 use Rattle.net_model.specs.declared.policies.PolicyKind.{PolicyKind}
-use Rattle.net_model.specs.declared.policies.PolicyKind.TheVariants.{Blocked, Through, Reach}
+use Rattle.net_model.specs.declared.policies.PolicyKind.TheVariants.{Reach}
 use Rattle.net_model.specs.declared.rows.LinkRow.{LinkRow}
 use Rattle.net_model.specs.declared.rows.Network.{Network}
 use Rattle.net_model.specs.Packets.{IsOfClass, subject}
 use Rattle.net_model.specs.Routing.{FailureSet}
 use Rattle.net_model.specs.Forwarding.{Ends, Enters, Leaves, failures}
-use Rattle.net_model.specs.Policies.{HoldsAs, MeetsAs, Meets}
+use Rattle.net_model.specs.Policies.{MeetsAs, Meets}
 use Rattle.net_laws.specs.Breaking.{no_link, SpeaksOf}
 use Rattle.net_laws.proofs.FailedSets.{holds_under_each}
+use Rattle.net_laws.proofs.RightVerdicts.{meets_holds}
 use Rattle.copy_laws.specs.Passing.{DifferInLists, PermitsWhere, PermitsFewer, IsBarring, IsReach, MoreKeepsBarred}
 use Rattle.copy_laws.specs.Passing.{FewerKeepsReach, AreSameEnds, MoreKeepsBarredUnder, FewerKeepsReachUnder, HoldsFor, MoreKeepsBarredReally, FewerKeepsReachReally}
 use Rattle.copy_laws.proofs.Kin.{Core, AreKin, same_core, carry, Moved, moved}
@@ -97,8 +98,6 @@ same_count net copy links failed k few =
 
 fewer_as : (net copy : Network) → PermitsFewer net copy → (ends others : Ends) → AreSameEnds net copy ends others → (class : Class) (kind : PolicyKind) → IsReach kind →
     MeetsAs copy others class kind → MeetsAs net ends class kind
-fewer_as net copy fewer ends others same class Blocked reach meets = absurd reach
-fewer_as net copy fewer ends others same class Through reach meets = absurd reach
 fewer_as net copy fewer ends others same class (Reach k) reach meets =
     let e : DifferInLists net copy = sym fewer.alike in (
       clear_there net copy class no_link ends others (alike net copy (kin net copy e) ends others same) (mirrors net copy e ends.to no_link)
@@ -106,6 +105,7 @@ fewer_as net copy fewer ends others same class (Reach k) reach meets =
       reach_as net copy class ends others k k (λ failed. failed) (λ failed few. same_count net copy (kin net copy e).links failed k few)
           (λ failed holds. fewer_under net copy fewer ends others same class (Reach k) reach failed holds) meets.1,
     )
+fewer_as net copy fewer ends others same class other reach meets = absurd reach
 
 pub fewer_keeps : FewerKeepsReach
 fewer_keeps net copy fewer policy reach meets =
@@ -116,22 +116,15 @@ fewer_keeps net copy fewer policy reach meets =
       meets = fewer_as net copy fewer to.ends meets.ends to.same (subject policy) policy.kind reach meets.meets;
     }
 
--- what a met policy asks holds under each failure set that it speaks of
-holds_as : (net : Network) (ends : Ends) (class : Class) (kind : PolicyKind) → MeetsAs net ends class kind → HoldsAs net ends class kind
-holds_as net ends class Blocked meets = meets
-holds_as net ends class Through meets = meets
-holds_as net ends class (Reach k) meets = meets.1
-
 spoken : (net copy : Network) → net.links ≡ copy.links → (kind : PolicyKind) (failed : FailureSet) → SpeaksOf net kind failed → SpeaksOf copy kind failed
-spoken net copy links Blocked failed speaks = speaks
-spoken net copy links Through failed speaks = speaks
 spoken net copy links (Reach k) failed speaks = same_count net copy links failed k speaks
+spoken net copy links other failed speaks = speaks
 
 under : (net copy : Network) → net.links ≡ copy.links → (policy : Policy) (meets : Meets copy policy) (p : Packet) → IsOfClass (subject policy) p →
     (failed : FailureSet) → SpeaksOf net policy.kind failed → HoldsFor copy meets.ends p policy.kind failed
 under net copy links policy meets p of failed speaks =
     each_packet copy meets.ends (subject policy) policy.kind failed
-    ((holds_under_each copy meets.ends (subject policy) policy.kind).0 (holds_as copy meets.ends (subject policy) policy.kind meets.meets) failed
+    ((holds_under_each copy meets.ends (subject policy) policy.kind).0 (meets_holds copy meets.ends (subject policy) policy.kind meets.meets) failed
     (spoken net copy links policy.kind failed speaks)) p of
 
 pub more_really : MoreKeepsBarredReally

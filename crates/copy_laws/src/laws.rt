@@ -1,7 +1,6 @@
 //! Laws of copies: each is the contract of a function that does nothing.
-ghost use Rattle.copy_laws.specs.Adjacencies.{DownIsFailed, FewerLinksKeepBarred};
-ghost use Rattle.copy_laws.specs.Adjacencies.{PassiveEndsAreDown, EachSetMayBeDown};
-ghost use Rattle.copy_laws.specs.Adjacencies.{FewerLinksCostReach};
+ghost use Rattle.copy_laws.specs.Adjacencies.{FewerLinksKeepBarred, FewerLinksCostReach};
+ghost use Rattle.copy_laws.specs.Adjacencies.{DownIsFailed, PassiveEndsAreDown, EachSetMayBeDown};
 ghost use Rattle.copy_laws.specs.Beyond.{PacketIsSure, ReachIsSure, DeliversAsModel};
 ghost use Rattle.copy_laws.specs.Beyond.{BlockedStays, ThroughStays};
 ghost use Rattle.copy_laws.specs.Cables.{CablesFailAsLinks, ReachByCables};

@@ -1,6 +1,6 @@
 -- How many edits there are, and what the lister knows of sessions.
 use Rattle.std.proofs.Common.{◌≡◌, ℕ, zero, suc, ◌+◌, ◌*◌, ◌^◌, ◌<◌, ◌≤◌, ◌==◌, ◌||◌, Bool, true, false, Option, Some, None}
-use Rattle.std.proofs.Common.{is_some, List, [], ◌∷◌, ◌++◌, length, get_or, map, find, refl, sym, ◌∙◌, ap, arith, length-append, if◌then◌else◌, mul-le-mul}
+use Rattle.std.proofs.Common.{is_some, List, [], ◌∷◌, ◌++◌, length, get_or, map, find, refl, sym, ◌∙◌, ap, arith, length-append, if◌then◌else◌}
 use Rattle.std.specs.Prelude.{All}
 use Rattle.std.specs.List.{filter_map, flat_map, cons_option, list_any, range_with_len, zip}
 use Rattle.std.proofs.lemmas.Bool.{eqb-true}
@@ -117,9 +117,6 @@ pub counted_all : (net : Network) (destinations : List Prefix) (classes : List C
 counted_all net destinations classes sessions routes prefixes packets kinds is_sessions is_routes is_prefixes is_packets is_kinds =
     all_counted net destinations classes sessions routes packets is_sessions is_routes is_packets ∙ ap (λ n. sessions + routes * n + packets * length (writable_classes classes)) (sym is_prefixes) ∙
     ap (λ n. sessions + routes * prefixes + packets * n) (sym is_kinds)
-
-pub small_product : (a b n m : ℕ) → a ≤ n → b ≤ m → a * b ≤ n * m
-small_product a b n m l k = mul-le-mul l k
 
 -- the sites and the new lists are few
 pub few_route_sites : (net : Network) (things all more : List (ℕ × Site)) (sites : List Site) (lists : List RouteList) (sessions : List SessionRow) → length lists < 2 ^ 32 → length sessions < 2 ^ 32 →

@@ -1,23 +1,13 @@
 -- The destinations of policies, one policy after another.
-use Rattle.std.proofs.Common.{◌≡◌, ℕ, ◌+◌, ◌<◌, ◌≤◌, Bool, true, false, List, [], ◌∷◌, ◌++◌, length, get_or, take, fold, refl, sym, ◌∙◌, ap, subst, arith, if◌then◌else◌}
+use Rattle.std.proofs.Common.{◌≡◌, ℕ, ◌+◌, ◌<◌, ◌≤◌, Bool, true, false, List, [], ◌∷◌, ◌++◌, length, get_or, take, refl, sym, ◌∙◌, ap, subst, arith, if◌then◌else◌}
 use Rattle.std.specs.List.{AllZip, list_any}
 use Rattle.std.proofs.lemmas.List.{take_more, length-append}
+use Rattle.std.proofs.lemmas.List.Sums.{fold_push}
 use Rattle.arc_base.specs.declared.prefix.Prefix.{Prefix}
+use Rattle.arc_base.proofs.Zips.{AllZip-append}
 use Rattle.net_model.specs.declared.policies.Policy.{Policy}
 use Rattle.net_model.specs.declared.rows.Network.{Network}
 use Rattle.edit_list.specs.EditLists.{LiesInHost, is_same, with_prefix, AreDestinations}
-
--- one more pair of items
-all_zip_push : {X Y : Type 0} (R : X → Y → Type 0) (xs : List X) (ys : List Y) (x : X) (y : Y) → AllZip R xs ys → R x y → AllZip R (xs ++ x ∷ []) (ys ++ y ∷ [])
-all_zip_push R [] [] x y h r = (r, tt)
-all_zip_push R [] (z ∷ ys) x y h r = absurd h
-all_zip_push R (w ∷ xs) [] x y h r = absurd h
-all_zip_push R (w ∷ xs) (z ∷ ys) x y h r = (h.0, all_zip_push R xs ys x y h.1 r)
-
--- a step more of a fold
-fold_push : {A B : Type 0} (f : B → A → B) (b : B) (xs : List A) (x : A) → fold f b (xs ++ x ∷ []) ≡ f (fold f b xs) x
-fold_push f b [] x = refl
-fold_push f b (y ∷ xs) x = fold_push f (f b y) xs x
 
 -- one policy more
 pub destinations_more : (net : Network) (policies : List Policy) (i : ℕ) (policy : Policy) (host : Prefix) (now next : List Prefix) → i < length policies → policy ≡ get_or policies i policy →
@@ -27,7 +17,7 @@ destinations_more net policies i policy host now next within is lies grown was =
     let R : Policy → Prefix → Type 0 = λ p h. LiesInHost net p.to h in
     record {
       hosts = was.hosts ++ host ∷ [];
-      are = subst (λ (l : List Policy). AllZip R l (was.hosts ++ host ∷ [])) (sym more) (all_zip_push R (take i policies) was.hosts policy host was.are lies);
+      are = subst (λ (l : List Policy). AllZip R l (was.hosts ++ host ∷ [])) (sym more) (AllZip-append R (take i policies) was.hosts (policy ∷ []) (host ∷ []) was.are (lies, tt));
       once = grown ∙ ap (λ l. with_prefix l host) was.once ∙ sym (fold_push with_prefix [] was.hosts host);
     }
 

@@ -3,7 +3,7 @@ use Rattle.std.proofs.Common.{◌≡◌, ℕ, ◌+◌, ◌<◌, ◌==◌, cond, 
 use Rattle.std.specs.Prelude.{All, AllPairs, slice_get, count_by}
 use Rattle.std.proofs.lemmas.List.{get_or-map, length-map, same_lists}
 use Rattle.std.proofs.lemmas.List.Sums.{sum_by-cons}
-use Rattle.std.proofs.lemmas.Option.{slice_get_within, slice_get-get_or, get_or_from_slice_get, same_Some}
+use Rattle.std.proofs.lemmas.Option.{slice_get_within, slice_get-get_or, get_or_from_slice_get}
 use Rattle.arc_base.specs.Numbered.{EachRow}
 use Rattle.std.proofs.lemmas.Bool.{cases_lt}
 
@@ -21,10 +21,6 @@ one_place xs i j x apart at_i at_j =
         | inr g ↦ omega (arith, h, g)
       ]
     ]
-
--- one item at a place
-pub one_item : {X : Type 0} (xs : List X) (i : ℕ) (x y : X) → slice_get xs i ≡ Some x → slice_get xs i ≡ Some y → x ≡ y
-one_item xs i x y at_x at_y = same_Some x y (sym at_x ∙ at_y)
 
 pub item_of : {X : Type 0} (xs : List X) (k : ℕ) → k < length xs → (x : X) × (slice_get xs k ≡ Some x)
 item_of [] k l = absurd (omega (arith, l))

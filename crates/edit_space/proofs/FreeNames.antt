@@ -16,6 +16,7 @@ use Rattle.std.proofs.lemmas.Map.Made.{length-le_from_is_member, IsDistinct-from
 use Rattle.std.proofs.lemmas.Slice.Eq.{bytes_eq-Decides}
 use Rattle.arc_base.proofs.Items.{from_filter, from_map}
 use Rattle.arc_base.specs.NameForms.{IsName, is_name_byte}
+use Rattle.arc_base.proofs.Zips.{AllByRecursion-append}
 use Rattle.edit_list.specs.NewLists.{new_name, is_name_among, free_names}
 use Rattle.edit_space.proofs.NameSets.{is_among_them, among_them}
 
@@ -62,17 +63,13 @@ digit_in_name b low high =
     let digit : is_ascii_digit b ≡ true = grind (arith, le-leb) in
     ap (λ t. t || (nat_le 65 b && nat_le b 90) || (nat_le 97 b && nat_le b 122) || (b == 45) || (b == 95) || (b == 46)) digit
 
-all_append : {X : Type 0} (P : X → Type 0) (xs ys : List X) → AllByRecursion P xs → AllByRecursion P ys → AllByRecursion P (xs ++ ys)
-all_append P [] ys h k = k
-all_append P (x ∷ xs) ys h k = (h.0, all_append P xs ys h.1 k)
-
 abbrev MayStand : List ℕ → Type 0
 MayStand bytes = AllByRecursion (λ b. IsTrue (is_name_byte b)) bytes
 
 decimal_in_name : (n : ℕ) → n < 2 ^ 64 → MayStand (decimal n)
 decimal_in_name n small =
     decimal_by_steps (λ k ds. MayStand ds) (λ k l. (digit_in_name (48 + k) (omega arith) (omega (arith, l)), tt))
-    (λ k ds l before. all_append (λ b. IsTrue (is_name_byte b)) ds ((48 + k % 10) ∷ []) before (digit_in_name (48 + k % 10) (omega arith) (omega (arith, digit_below k)), tt)) n small
+    (λ k ds l before. AllByRecursion-append (λ b. IsTrue (is_name_byte b)) ds ((48 + k % 10) ∷ []) before (digit_in_name (48 + k % 10) (omega arith) (omega (arith, digit_below k)), tt)) n small
   where
     digit_below : (k : ℕ) → k % 10 < 10
     digit_below k = omega arith
@@ -85,7 +82,7 @@ new_name_is_name n small =
     record {
       some = omega (arith, length-append (codes "ARC-") (decimal n));
       few = omega (arith, length-append (codes "ARC-") (decimal n), short);
-      bytes = all_append (λ b. IsTrue (is_name_byte b)) (codes "ARC-") (decimal n) (refl, (refl, (refl, (refl, tt)))) (decimal_in_name n big);
+      bytes = AllByRecursion-append (λ b. IsTrue (is_name_byte b)) (codes "ARC-") (decimal n) (refl, (refl, (refl, (refl, tt)))) (decimal_in_name n big);
     }
 
 candidate_is_name : (count : ℕ) (name : List ℕ) → count < 2 ^ 59 → Contains (candidates count) name → IsName name

@@ -12,6 +12,7 @@ use Rattle.net_model.specs.declared.rows.RouterRow.{RouterRow}
 use Rattle.net_model.specs.declared.rows.Network.{Network}
 use Rattle.net_model.specs.Validity.{IsValid, IsValidPacketList, IsValidRouteList}
 use Rattle.net_model.proofs.Readings.{item_at_place}
+use Rattle.net_model.proofs.Arcs.{one_item}
 use Rattle.edit_list.specs.declared.edit_kinds.Edit.{Edit}
 use Rattle.edit_list.specs.declared.list_kinds.NewList.{NewList}
 use Rattle.edit_list.specs.declared.list_kinds.NewList.TheVariants.{Route, Packet}
@@ -20,7 +21,6 @@ use Rattle.edit_list.specs.declared.sites.Site.TheVariants.{Bound, New}
 use Rattle.edit_list.specs.After.{edited_packet_list, edited_route_list, with_classes, with_prefixes, new_packet_entries, new_route_entries, IsNewPacketList, IsNewRouteList}
 use Rattle.edit_list.specs.Changes.{list_classes, list_prefixes, new_classes, new_prefixes}
 use Rattle.edit_list.specs.NewLists.{names_of, IsNewList}
-use Rattle.edit_list.proofs.RowFacts.{one_item}
 use Rattle.edit_space.specs.declared.order.Keyed.{Keyed}
 use Rattle.edit_space.specs.Working.{old_key, packet_face, route_face, HasPacketEntries, HasRouteEntries, IsPacketListFor, IsRouteListFor}
 use Rattle.edit_space.proofs.NamedFacts.{of_packet_face, of_route_face}

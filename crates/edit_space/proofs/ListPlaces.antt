@@ -11,6 +11,7 @@ use Rattle.arc_base.specs.declared.place.ListId.{ListId}
 use Rattle.net_model.specs.declared.rows.Network.{Network}
 use Rattle.net_model.specs.Validity.{IsValid}
 use Rattle.net_model.proofs.Readings.{place_of_item, item_at_place}
+use Rattle.net_model.proofs.Arcs.{one_item}
 use Rattle.edit_list.specs.declared.edit_kinds.Edit.{Edit}
 use Rattle.edit_list.specs.declared.list_kinds.NewList.{NewList}
 use Rattle.edit_space.specs.declared.new_lists.Named.{Named}
@@ -24,7 +25,7 @@ use Rattle.edit_list.specs.Ordered.{Key, IsKeyBefore}
 use Rattle.edit_space.specs.Working.{key_of, old_key, new_key, new_key_by, IsWithin, ArePlaces, AreMade, list_at, moved, bound_at}
 use Rattle.edit_space.proofs.ListKinds.{ListsOfKind, IsListAfter, one_router, made_for, of_some}
 use Rattle.edit_list.proofs.NewListFacts.{picks, picked_from, pairs_picked, placed_is, placed_there, placed_pairs}
-use Rattle.edit_list.proofs.RowFacts.{one_item, item_of, row_was, row_now}
+use Rattle.edit_list.proofs.RowFacts.{item_of, row_was, row_now}
 use Rattle.edit_space.proofs.NamedFacts.{one_name, named_is_new, new_is_named, name_is_new, one_list, named_apart}
 
 module _ {net : Network} {chosen : List Edit} (K : ListsOfKind net chosen) where

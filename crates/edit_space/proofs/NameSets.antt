@@ -176,16 +176,13 @@ finds_name (x ∷ xs) k h = elim (Contains-cases x.now k.now (texts_at xs) h) [
     always true = refl
     always false = refl
 
-among : (names : List (List ℕ)) (n : List ℕ) → is_name_among names n ≡ true → Contains names n
-among [] n e = absurd (false≢true e)
-among (x ∷ xs) n e = by (bytes_eq n x) refl (λ rest. among xs n rest) e
+pub is_among_them : (names : List (List ℕ)) (n : List ℕ) → is_name_among names n ≡ true → Contains names n
+is_among_them [] n e = absurd (false≢true e)
+is_among_them (x ∷ xs) n e = by (bytes_eq n x) refl (λ rest. is_among_them xs n rest) e
   where
     by : (b : Bool) → bytes_eq n x ≡ b → (is_name_among xs n ≡ true → Contains xs n) → is_name_among (x ∷ xs) n ≡ true → Contains (x ∷ xs) n
     by true f later e = subst (λ (m : List ℕ). Contains (x ∷ xs) m) (sym ((bytes_eq-Decides n x).0 f)) (Contains-head x xs)
     by false f later e = Contains-tail x n xs (later (sym (ap (λ b. b || is_name_among xs n) f) ∙ e))
-
-pub is_among_them : (names : List (List ℕ)) (n : List ℕ) → is_name_among names n ≡ true → Contains names n
-is_among_them names n e = among names n e
 
 pub among_them : (names : List (List ℕ)) (n : List ℕ) → Contains names n → is_name_among names n ≡ true
 among_them [] n h = absurd (Contains-none n h)
@@ -205,7 +202,7 @@ taken_is_among ks names k same = by (list_any (is_at (text_order k)) ks) refl (i
   where
     by : (b : Bool) → list_any (is_at (text_order k)) ks ≡ b → (c : Bool) → is_name_among names k.now ≡ c → list_any (is_at (text_order k)) ks ≡ is_name_among names k.now
     by true e c f = e ∙ sym (among_them names k.now ((same k.now).0 (found_name ks k e)))
-    by false e true f = absurd (false≢true (sym e ∙ finds_name ks k ((same k.now).1 (among names k.now f))))
+    by false e true f = absurd (false≢true (sym e ∙ finds_name ks k ((same k.now).1 (is_among_them names k.now f))))
     by false e false f = e ∙ sym f
 
 pub listed_all : (listed all : List (List ℕ)) (rest : List (Bor (List ℕ))) → rest ≡ [] → listed ++ texts_at rest ≡ all → listed ≡ all

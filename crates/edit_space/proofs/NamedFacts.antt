@@ -10,6 +10,7 @@ use Rattle.edit_list.specs.declared.edit_kinds.Edit.{Edit}
 use Rattle.arc_base.specs.declared.place.Face.{Face}
 use Rattle.net_model.specs.declared.rows.FaceRow.{FaceRow}
 use Rattle.net_model.specs.declared.rows.SessionRow.{SessionRow}
+use Rattle.net_model.proofs.Arcs.{one_item}
 use Rattle.edit_list.specs.Changes.{new_prefixes, new_classes}
 use Rattle.edit_list.specs.declared.list_kinds.NewList.{NewList}
 use Rattle.edit_list.specs.declared.list_kinds.NewList.TheVariants.{Route, Packet}
@@ -22,7 +23,7 @@ use Rattle.arc_base.proofs.Grouped.{told_at}
 use Rattle.edit_space.proofs.FreeNames.{free_names_apart, free_name_is_new}
 use Rattle.edit_list.proofs.Apart.{number_told}
 use Rattle.edit_list.proofs.NewListFacts.{picked_from, pairs_picked, new_list_from, new_list_within, new_lists_apart}
-use Rattle.edit_list.proofs.RowFacts.{one_place, one_item}
+use Rattle.edit_list.proofs.RowFacts.{one_place}
 
 -- the new list of an interface, with its row
 pub record IsOfPacketFace (net : Network) (chosen : List Edit) (router : ℕ) (face : Face) : Type 0 where

@@ -21,9 +21,9 @@ use Rattle.arc_base.specs.TextLines.{lines, without_return}
 use Rattle.arc_base.specs.Words.{words}
 use Rattle.cnf_types.proofs.Content.{bad_later, content_line, numbers_line}
 use Rattle.proof_log.specs.Texts.{before_spaces, literal_text}
-use Rattle.proof_log.proofs.Printed.{AreWords, IsInLine, decimal_plain, line_and_rest, natural_decimal, no_comment, plain_word, spaced_in_line, words_spaced}
+use Rattle.proof_log.proofs.Printed.{AreWords, IsInLine, decimal_plain, line_and_rest, natural_decimal, no_comment, plain_word, spaced_in_line, words_spaced, first_word}
 use Rattle.formula_text_laws.specs.Texts.{FormulasAreReadAgain, IsOfVariables, IsWithinLimits, clause_line, formula_text}
-use Rattle.formula_text_laws.proofs.Words.{first-word, last-word, literals-back, literal-word, literals-good, literals-nonzero, literals-numbers, literals-words, no-return, number_of}
+use Rattle.formula_text_laws.proofs.Words.{last-word, literals-back, literal-word, literals-good, literals-nonzero, literals-numbers, literals-words, no-return, number_of}
 
 -- a clause's line without its end
 abbrev clause_words : Clause → List ℕ
@@ -147,7 +147,7 @@ module _ (vars clauses : ℕ) (few : vars ≤ 16777216) (bounded : clauses ≤ 9
   head-words : words (head vars clauses) ≡ codes "p" ∷ codes "cnf" ∷ decimal vars ∷ decimal clauses ∷ []
   head-words =
       let ws = two-words in
-      ap (λ r. codes "p" ∷ codes "cnf" ∷ r) (first-word (decimal vars) (decimal clauses) ws.0 ∙ ap (λ r. decimal vars ∷ r) (last-word (decimal clauses) ws.1.0))
+      ap (λ r. codes "p" ∷ codes "cnf" ∷ r) (first_word (decimal vars) (decimal clauses) ws.0 ∙ ap (λ r. decimal vars ∷ r) (last-word (decimal clauses) ws.1.0))
 
   head-read : header (cnf_line_words (head vars clauses)) ≡ Some (record { vars = vars; clauses = clauses })
   head-read =

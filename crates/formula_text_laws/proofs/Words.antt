@@ -1,21 +1,20 @@
 -- Words, literals and lines of a formula's text, and what they are read as.
-use Rattle.std.proofs.Common.{◌≡◌, ℕ, suc, zero, ◌+◌, ◌-◌, ◌*◌, ◌/◌, ◌%◌, ◌<◌, ◌≤◌, ◌^◌, ℤ, pos, negsuc, Bool, true, false, cond, ◌||◌, ◌==◌}
+use Rattle.std.proofs.Common.{◌≡◌, ℕ, suc, zero, ◌+◌, ◌-◌, ◌*◌, ◌/◌, ◌%◌, ◌<◌, ◌≤◌, ◌^◌, ℤ, pos, negsuc, Bool, true, false, cond, ◌||◌}
 use Rattle.std.proofs.Common.{List, [], ◌∷◌, ◌++◌, length, take, get_or, map, filter, refl, ap, ap₂, ◌∙◌, arith, All, Some, None, decimal, option_map, option_and_then, is_none, ⊎_elim}
-use Rattle.std.specs.List.{list_any, slice_split, cons_option}
-use Rattle.std.proofs.lemmas.Bool.{cond-true, cond-false, ne_eqb, eq-eqb, le-leb, cases_eq}
+use Rattle.std.specs.List.{list_any, cons_option}
+use Rattle.std.proofs.lemmas.Bool.{cond-false, ne_eqb, eq-eqb, le-leb, cases_eq}
 use Rattle.std.proofs.lemmas.Fmt.{decimal_is_IsNumeral}
-use Rattle.std.proofs.lemmas.List.Elements.{All-cons, All-nil, All-weaker, All-get_or, All-from_get_or, All-head, All-tail}
-use Rattle.std.proofs.lemmas.List.Splits.{slice_split_at, slice_split_none}
-use Rattle.std.proofs.lemmas.Option.{none-some}
+use Rattle.std.proofs.lemmas.List.Elements.{All-cons, All-nil, All-get_or, All-from_get_or, All-head, All-tail}
+use Rattle.std.proofs.lemmas.List.Splits.{slice_split_none}
 use Rattle.std.proofs.lemmas.Str.Parse.{digit_at}
 use Rattle.cnf_types.specs.declared.literal.Lit.{Lit}
 use Rattle.cnf_types.specs.Dimacs.{is_bad_word, is_zero, line_numbers, literal_of}
 use Rattle.cnf_types.specs.Literals.{literal, is_positive, variable}
-use Rattle.arc_base.specs.WordNumbers.{minus, natural, number}
+use Rattle.arc_base.specs.WordNumbers.{minus, number}
 use Rattle.arc_base.specs.TextLines.{without_return}
 use Rattle.arc_base.specs.Words.{is_blank, is_filled, words}
 use Rattle.proof_log.specs.Texts.{literal_text}
-use Rattle.proof_log.proofs.Printed.{AreWords, IsInLine, IsPlain, IsWord, decimal_plain, minus_plain, natural_decimal, plain_word}
+use Rattle.proof_log.proofs.Printed.{AreWords, IsInLine, IsPlain, IsWord, decimal_plain, minus_plain, natural_decimal, plain_word, no_blanks, front_word, number_plain}
 use Rattle.formula_text_laws.specs.Texts.{IsOfVariables}
 
 -- a line in which no byte ends a line has no carriage return at its end
@@ -24,24 +23,9 @@ no-return line some h =
     let high = All-get_or (λ b. 31 < b) line (length line - 1) 0 (omega arith) h in
     cond-false _ (take (length line - 1) line) line (ne_eqb (get_or line (length line - 1) 0) 13 (λ e. omega (arith, high)))
 
-no-blanks : (w : List ℕ) → All (λ b. 32 < b) w → All (λ b. is_blank b ≡ false) w
-no-blanks w h = All-weaker (λ b. 32 < b) (λ b. is_blank b ≡ false)
-    (λ b k. ap₂ (λ x y. x || y) (ne_eqb b 32 (λ e. omega arith)) (ne_eqb b 9 (λ e. omega arith))) w h
-
-filled : (bytes : List ℕ) → 0 < length bytes → is_filled bytes ≡ true
-filled [] h = absurd (omega arith)
-filled (b ∷ bytes) h = refl
-
-front-word : (w : List ℕ) (ps : List (List ℕ)) → 0 < length w → filter is_filled (w ∷ ps) ≡ w ∷ filter is_filled ps
-front-word w ps h = cond-true (is_filled w) (w ∷ filter is_filled ps) (filter is_filled ps) (filled w h)
-
--- a word before a space, and a word alone
-pub first-word : (w rest : List ℕ) → IsWord w → words (w ++ 32 ∷ rest) ≡ w ∷ words rest
-first-word w rest h =
-    ap (filter is_filled) (slice_split_at is_blank w 32 rest (no-blanks w h.1) refl) ∙ front-word w (slice_split is_blank rest) h.0
-
+-- a word alone
 pub last-word : (w : List ℕ) → IsWord w → words w ≡ w ∷ []
-last-word w h = ap (filter is_filled) (slice_split_none is_blank w (no-blanks w h.1)) ∙ front-word w [] h.0
+last-word w h = ap (filter is_filled) (slice_split_none is_blank w (no_blanks w h.1)) ∙ front_word w [] h.0
 
 -- the number that a literal is written as
 abbrev signed : Bool → ℕ → ℤ
@@ -52,20 +36,13 @@ signed false (suc n) = negsuc n
 abbrev pub number_of : Lit → ℤ
 number_of l = signed (is_positive l) (variable l)
 
--- digits without a sign
-unsigned : (limit n : ℕ) (w : List ℕ) → All (λ b. (48 ≤ b) × (b ≤ 57)) w → natural limit w ≡ Some n → number limit w ≡ Some (pos n)
-unsigned limit n [] digits e = absurd (none-some n e)
-unsigned limit n (b ∷ bytes) digits e =
-    let low = (All-head (λ b. (48 ≤ b) × (b ≤ 57)) b bytes digits).0 in
-    cond-false (b == 45) (option_and_then minus (natural limit bytes)) (option_map pos (natural limit (b ∷ bytes))) (ne_eqb b 45 (λ h. omega (arith, low))) ∙ ap (option_map pos) e
-
 digit-bytes : (n : ℕ) → n < 2 ^ 64 → All (λ b. (48 ≤ b) × (b ≤ 57)) (decimal n)
 digit-bytes n fits =
     let numeral = (decimal_is_IsNumeral n fits).0 in
     All-from_get_or (λ b. (48 ≤ b) × (b ≤ 57)) (decimal n) 0 (λ i within. let at = digit_at (decimal n) i numeral.1 within in (omega (arith, at), omega (arith, at)))
 
 pub literal-number : (limit : ℕ) (b : Bool) (v : ℕ) → 1 ≤ v → v ≤ limit → limit < 2 ^ 63 → number limit (cond b (decimal v) (45 ∷ decimal v)) ≡ Some (signed b v)
-literal-number limit true v some fits small = unsigned limit v (decimal v) (digit-bytes v (omega arith)) (natural_decimal limit v (omega arith) fits)
+literal-number limit true v some fits small = number_plain limit v (decimal v) (digit-bytes v (omega arith)) (natural_decimal limit v (omega arith) fits)
 literal-number limit false zero some fits small = absurd (omega arith)
 literal-number limit false (suc n) some fits small = ap (option_and_then minus) (natural_decimal limit (suc n) (omega arith) fits)
 

@@ -2,7 +2,7 @@
 use Rattle.std.proofs.Common.{◌≡◌, ◌≢◌, ℕ, zero, suc, ◌+◌, ◌<◌, ◌≤◌, List, [], ◌∷◌, ◌++◌, length, map, length-append, sym, ap, subst, arith}
 use Rattle.std.specs.Prelude.{All, AllPairs, codes, decimal}
 use Rattle.std.specs.List.{AllZip, range_with_len}
-use Rattle.std.proofs.lemmas.Fmt.{decimal_injective, length-decimal-le}
+use Rattle.std.proofs.lemmas.Fmt.{decimal_injective}
 use Rattle.std.proofs.lemmas.List.{append_cancel_left, append_cancel_right}
 use Rattle.std.proofs.lemmas.List.Elements.{All-append, All-cons, All-nil}
 use Rattle.std.proofs.lemmas.List.FromFn.{length-map-range_with_len}
@@ -11,6 +11,7 @@ use Rattle.net_model.specs.declared.policies.Policy.{Policy}
 use Rattle.net_model.specs.declared.policies.Weights.{Weights}
 use Rattle.net_doc.specs.Documents.{IsFileName, IsWeight, IsWellFormed}
 use Rattle.net_model.specs.Policies.{HasFewFailures}
+use Rattle.net_gen.proofs.Lengths.{three_digits}
 use Rattle.net_gen.specs.Plans.{numbers}
 use Rattle.net_gen.specs.RouterFiles.{file_name}
 use Rattle.net_gen.specs.Generated.{Asked, asked, asked_around, Asks, IsGenerated}
@@ -45,9 +46,6 @@ pub few_failures : (n : ℕ) (made : Generated) → IsGenerated n made → All H
 few_failures n made is = along (asked n) made.doc.policies is.doc.policies (asked_few n)
 
 -- ---- a well-formed document
-
-three_digits : (k : ℕ) → k < 1000 → length (decimal k) ≤ 3
-three_digits k few = length-decimal-le 3 k (omega arith) (omega (arith, few)) (omega (arith, few))
 
 is_file_name : (k : ℕ) → k < 1000 → IsFileName (file_name k)
 is_file_name k few =

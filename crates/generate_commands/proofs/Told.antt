@@ -1,6 +1,7 @@
 -- What the status of `generate` says.
 use Rattle.std.proofs.Common.{◌≡◌, ◌∙◌, ℕ, Bool, Some, List, [], sym, ap, subst}
 use Rattle.arc_outside.specs.Files.{Files, with_file, with_files}
+use Rattle.arc_outside.proofs.OnShelf.{held_before}
 use Rattle.net_model.specs.declared.policies.Document.{Document}
 use Rattle.net_model.specs.declared.rows.Network.{Network}
 use Rattle.net_model.specs.declared.verdicts.Verdict.{Verdict}
@@ -17,7 +18,7 @@ use Rattle.proof_log.specs.declared.steps.Log.{Log}
 use Rattle.arc_repair.specs.declared.answer.Answer.{Answer}
 use Rattle.arc_repair.specs.declared.answer.Answer.TheVariants.{Done as Claimed, Budget}
 use Rattle.arc_repair.specs.Answers.{IsRepairFault}
-use Rattle.file_copies.proofs.OneMore.{is_written, other_kept}
+use Rattle.file_copies.proofs.OneMore.{is_written}
 use Rattle.file_copies.proofs.OneRefusal.{limit_refusal}
 use Rattle.file_copies.proofs.SomePatches.{patches_are_there}
 use Rattle.command_words.specs.declared.commands.GenerateWords.{GenerateWords}
@@ -83,7 +84,7 @@ module _ (words : GenerateWords) where
 
     kept : KeepsOthers words.proof files now
     kept name other =
-        ap (λ (f : Files). f name) after_is ∙ other_kept files words.proof (certificate_of done.built.net done.made.doc done.list done.answer) name (λ e. other (sym e))
+        ap (λ (f : Files). f name) after_is ∙ held_before files words.proof (certificate_of done.built.net done.made.doc done.list done.answer) name (λ e. other (sym e))
 
     never : IsGenerateRefused words → ⊥
     never r = summed_or_refused d done r.refusal r.refused

@@ -3,6 +3,7 @@ use Rattle.std.proofs.Common.{◌≡◌, ◌≢◌, ℕ, ◌+◌, ◌<◌, ◌�
 use Rattle.std.specs.List.{AllByRecursion}
 use Rattle.std.proofs.lemmas.Bool.{cond-true, le-leb}
 use Rattle.std.proofs.lemmas.List.{take_all, drop_all, length_push}
+use Rattle.std.proofs.lemmas.List.Sums.{fold-append}
 use Rattle.arc_base.proofs.Items as items
 use Rattle.arc_base.proofs.Zips.{AllByRecursion-append}
 use Rattle.ios_lines.specs.Changes.{inserted, moved, MayStandAt}
@@ -60,12 +61,8 @@ with-last place c (d ∷ cs) low =
     ∙ ap (λ e. e ∷ with_command place c cs) (moved-same place d low.0) ∙ ap (λ rest. d ∷ rest) (with-last place c cs low.1)
 
 -- what is open after one line more
-fold-last : {A B : Type 0} (f : B → A → B) (start : B) (xs : List A) (x : A) → fold f start (xs ++ x ∷ []) ≡ f (fold f start xs) x
-fold-last f start [] x = refl
-fold-last f start (y ∷ xs) x = fold-last f (f start y) xs x
-
 banner-last : (lines : List (List ℕ)) (line : List ℕ) → open_banner lines ≡ None → opened (kind line) line ≡ None → open_banner (lines ++ line ∷ []) ≡ None
-banner-last lines line none other = fold-last after_line None lines line ∙ ap (λ b. after_line b line) none ∙ other
+banner-last lines line none other = fold-append after_line None lines (line ∷ []) ∙ ap (λ b. after_line b line) none ∙ other
 
 open-last : (count : ℕ) (start : _) (block : ℕ) (lines : List (List ℕ)) (line : List ℕ) →
     open_from count start block (lines ++ line ∷ []) ≡ block_after (kind_within (fold after_line start lines) line) (count + length lines + 1) (open_from count start block lines)

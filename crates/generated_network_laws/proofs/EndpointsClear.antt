@@ -127,7 +127,7 @@ endpoint-clear n doc some few links policies r refused =
     let net = refused.net in
     let ask = AllZip-left Asks (asked n) doc.policies policies bad.place bad.item bad.at_place in
     let a = ask.0 in
-    let between = asked-apart n a some (item-at (asked n) bad.place a ask.1) in
+    let between = asked-apart n a some (Contains-at (asked n) bad.place a ask.1) in
     let source = host-place n doc net a.source refused.rows some few links between.source_low between.source_high in
     let target = host-place n doc net a.target refused.rows some few links between.target_low between.target_high in
     let low-source = between.source_low in
@@ -144,6 +144,3 @@ endpoint-clear n doc some few links policies r refused =
           host-of n net a.target bad.item.to target ask.2.to;
       apart = apart;
     })
-  where
-    item-at : {X : Type 0} (xs : List X) (k : ℕ) (x : X) → slice_get xs k ≡ Some x → Contains xs x
-    item-at xs k x at = Contains-at xs k x at

@@ -1,5 +1,5 @@
 -- A generated network's document has one class for each of its policies.
-use Rattle.std.proofs.Common.{◌≡◌, ℕ, zero, suc, ◌+◌, ◌*◌, ◌<◌, ◌≤◌, inl, inr, ◌-◌, ◌^◌, Bool, true, false, cond}
+use Rattle.std.proofs.Common.{◌≡◌, ℕ, suc, ◌+◌, ◌*◌, ◌<◌, ◌≤◌, inl, inr, ◌-◌, ◌^◌, Bool, true, false, cond}
 use Rattle.std.proofs.Common.{List, [], ◌∷◌, ◌++◌, length, take, drop, map, fold, sym, ap, subst, ◌∙◌, arith, Contains, take-append-drop, length-append}
 use Rattle.std.specs.List.{AllZip, flat_map, list_any}
 use Rattle.std.proofs.Math.Nat.{min-le_left}
@@ -21,8 +21,6 @@ use Rattle.traffic_classes.proofs.Triples.{length-triples}
 
 -- a prefix that is not split has one leaf
 one-leaf : (marks : List Prefix) (whole : Prefix) (leaves : List Prefix) → ¬ IsSplit marks whole → AreLeaves marks whole leaves → length leaves ≤ 1
-one-leaf marks whole [] unsplit are = omega arith
-one-leaf marks whole (p ∷ []) unsplit are = omega arith
 one-leaf marks whole (p ∷ q ∷ rest) unsplit are =
     let second : Contains (q ∷ rest) q = items.Contains-head q rest in
     let one : p ≡ whole = (unsplit_is_leaf marks whole unsplit p).0 ((are.each p).0 (items.Contains-head p (q ∷ rest))) in
@@ -30,11 +28,10 @@ one-leaf marks whole (p ∷ q ∷ rest) unsplit are =
     let rising : p.addr < q.addr = items.AllPairs-first (λ (x y : Prefix). x.addr < y.addr) p q (q ∷ rest) are.rising second in
     let same : p.addr ≡ q.addr = ap (λ (x : Prefix). x.addr) (one ∙ sym two) in
     absurd (omega arith)
+one-leaf marks whole other unsplit are = omega arith
 
 -- a range that is not cut has one leaf
 one-range : (marks : List Service) (whole : Service) (leaves : List Service) → ¬ IsCut marks whole → AreServiceLeaves marks whole leaves → length leaves ≤ 1
-one-range marks whole [] uncut are = omega arith
-one-range marks whole (s ∷ []) uncut are = omega arith
 one-range marks whole (s ∷ t ∷ rest) uncut are =
     let second : Contains (t ∷ rest) t = items.Contains-head t rest in
     let first : IsServiceLeaf marks whole s = (are.each s).0 (items.Contains-head s (t ∷ rest)) in
@@ -44,6 +41,7 @@ one-range marks whole (s ∷ t ∷ rest) uncut are =
     let rising : s.low < t.low = items.AllPairs-first (λ (x y : Service). x.low < y.low) s t (t ∷ rest) are.rising second in
     let same : s.low ≡ t.low = ap (λ (x : Service). x.low) (sym one ∙ two) in
     absurd (omega arith)
+one-range marks whole other uncut are = omega arith
 
 -- the policies go between prefixes of one length, and speak of all services
 pub record AreEven (policies : List Policy) : Type 0 where
@@ -86,9 +84,8 @@ even-services net policies p none even there cut =
     cut.parted (at cut.service cut.first ∙ sym (at (cut.service + 1) cut.next))
 
 at-most-one : (x y : ℕ) → x ≤ 1 → y ≤ 1 → x * y ≤ 1
-at-most-one zero y low few = omega arith
-at-most-one (suc zero) y low few = omega arith
 at-most-one (suc (suc x)) y low few = absurd (omega arith)
+at-most-one x y low few = omega arith
 
 pub one-class : (net : Network) (policies : List Policy) (p : Policy) (classes : List Class) → net.packet_lists ≡ [] → AreEven policies → Contains policies p →
     AreClasses net policies p classes → length classes ≤ 1
@@ -116,13 +113,12 @@ few-lists : (net : Network) (policies some : List Policy) (lists : List (List Cl
     ((p : Policy) → Contains some p → Contains policies p) → AllZip (AreClasses net policies) some lists →
     length (flat_map (λ (l : List Class). l) lists) ≤ length some
 few-lists net policies [] [] none even among zip = omega arith
-few-lists net policies [] (l ∷ lists) none even among zip = absurd zip
-few-lists net policies (p ∷ some) [] none even among zip = absurd zip
 few-lists net policies (p ∷ some) (l ∷ lists) none even among zip =
     let first = one-class net policies p l none even (among p (items.Contains-head p some)) zip.0 in
     let rest = few-lists net policies some lists none even (λ q there. among q (items.Contains-tail p q some there)) zip.1 in
     let long = length-append l (flat_map (λ (x : List Class). x) lists) in
     omega arith
+few-lists net policies some lists none even among zip = absurd zip
 
 pub few-classes : (net : Network) (policies some : List Policy) (classes : List Class) → net.packet_lists ≡ [] → AreEven policies →
     ((p : Policy) → Contains some p → Contains policies p) → AreAllClasses net policies some classes → length classes ≤ length some

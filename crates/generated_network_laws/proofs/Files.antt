@@ -1,5 +1,5 @@
 -- The commands of a generated file, line by line.
-use Rattle.std.proofs.Common.{◌≡◌, ℕ, suc, ◌+◌, ◌*◌, ◌^◌, ◌<◌, ◌≤◌, ◌==◌, Bool, true, false, List}
+use Rattle.std.proofs.Common.{◌≡◌, ℕ, suc, ◌+◌, ◌*◌, ◌^◌, ◌<◌, ◌≤◌, ◌==◌, List}
 use Rattle.std.proofs.Common.{[], ◌∷◌, ◌++◌, length, codes, refl, sym, ap, subst, ◌∙◌, arith, if◌then◌else◌, append-nil, append_assoc}
 use Rattle.std.specs.List.{AllByRecursion, flat_map}
 use Rattle.std.proofs.lemmas.List.{length_push}
@@ -10,6 +10,7 @@ use Rattle.ios_words.specs.Prefixes.{whole}
 use Rattle.ios_words.proofs.PlainLines.{closing-line}
 use Rattle.ios_config.specs.declared.commands.FileCommand.{FileCommand}
 use Rattle.ios_config.specs.Inserted.{command_at}
+use Rattle.net_gen.proofs.Lengths.{end_small}
 use Rattle.net_gen.specs.Plans.{a_router, port}
 use Rattle.net_gen.specs.RouterFiles.{host_name, face_name, address, name_line, face_line, address_line, process_line, covers_line, face_lines, name_lines, host_lines, link_lines, process_lines}
 use Rattle.generated_network_laws.proofs.LineReads.{name-read, face-read, address-read, process-read, covers-read, end-read}
@@ -117,10 +118,6 @@ module _ (lines : List (List ℕ)) (cs : List FileCommand) (block : ℕ) (r : Ar
 abbrev pub IsSmall : ℕ → ℕ → ℕ → Type 0
 IsSmall n router link = (link < 256) × (port n router link < 64)
 
-end-small : (link : ℕ) → link < 256 → (b : Bool) → address 0 link (if b then 1 else 2) < 2 ^ 32
-end-small link few true = omega (arith, few)
-end-small link few false = omega (arith, few)
-
 -- the lines of the interfaces over links
 links-more : (n router : ℕ) (links : List ℕ) → AllByRecursion (IsSmall n router) links → (lines : List (List ℕ)) (cs : List FileCommand) → AreRead lines cs 0 →
     AreRead (lines ++ flat_map (link_lines n router) links) (cs ++ link_commands n router (length lines) links) 0
@@ -128,7 +125,7 @@ links-more n router [] small lines cs r = same-read lines (lines ++ []) cs (cs +
 links-more n router (link ∷ links) small lines cs r =
     let end = end_of n router link in
     let at = length lines in
-    let one = face-more lines cs 0 r (port n router link) (address 0 link end) 30 small.0.1 (end-small link small.0.0 (a_router n link == router)) (omega arith) (omega arith) in
+    let one = face-more lines cs 0 r (port n router link) (address 0 link end) 30 small.0.1 (end_small link small.0.0 (a_router n link == router)) (omega arith) (omega arith) in
     let more = lines ++ link_lines n router link in
     let rest = links-more n router links small.1 more (cs ++ link_face_commands n router at link) one in
     let long : length more ≡ at + 3 = three lines (face_line (port n router link)) (address_line (address 0 link end) 30) (codes "!") in

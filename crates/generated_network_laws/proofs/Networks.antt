@@ -87,9 +87,8 @@ no-route-row n row is =
 names-are : (protocol : Protocol) (f : ℕ → Config) (g : ℕ → List ℕ) (xs : List ℕ) (rows : List RouterRow) → ((x : ℕ) → build.host_name (f x) ≡ g x) →
     AllZip (IsRouterRow protocol) (map f xs) rows → map (λ (r : RouterRow). r.name) rows ≡ map g xs
 names-are protocol f g [] [] same zip = refl
-names-are protocol f g [] (r ∷ rows) same zip = absurd zip
-names-are protocol f g (x ∷ xs) [] same zip = absurd zip
 names-are protocol f g (x ∷ xs) (r ∷ rows) same zip = ap (λ n. n ∷ map (λ (r : RouterRow). r.name) rows) (zip.0.name ∙ same x) ∙ ap (λ ns. g x ∷ ns) (names-are protocol f g xs rows same zip.1)
+names-are protocol f g xs rows same zip = absurd zip
 
 pub have-plan : GeneratedNetworksHaveTheirPlan
 have-plan n most generated net g is =

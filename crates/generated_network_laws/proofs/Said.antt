@@ -1,6 +1,7 @@
 -- The files of a generated network are router files, and this is what they set.
 use Rattle.std.proofs.Common.{◌≡◌, ℕ, ◌+◌, ◌*◌, ◌<◌, ◌≤◌, inl, inr, List, [], ◌∷◌, length, filter, map, refl, sym, ap, subst, ◌∙◌, arith, Contains}
 use Rattle.std.specs.List.{AllByRecursion, AllZip}
+use Rattle.std.proofs.lemmas.List.Elements.{recursion_from_All}
 use Rattle.arc_base.specs.declared.refusal.Kind.{Kind}
 use Rattle.arc_base.proofs.Items as items
 use Rattle.net_doc.specs.declared.fault.Refusal.{Refusal}
@@ -42,17 +43,13 @@ settings_of n router = settings n router (links_of n router)
 abbrev pub all_settings : ℕ → List Config
 all_settings n = map (settings_of n) (numbers n)
 
-all-from : {X : Type 0} (P : X → Type 0) (xs : List X) → ((x : X) → Contains xs x → P x) → AllByRecursion P xs
-all-from P [] each = tt
-all-from P (x ∷ xs) each = (each x (items.Contains-head x xs), all-from P xs (λ y there. each y (items.Contains-tail x y xs there)))
-
 links-small : (n router : ℕ) → n ≤ 40 → AllByRecursion (IsSmall n router) (links_of n router)
 links-small n router few =
-    all-from (IsSmall n router) (links_of n router) (λ link there.
+    recursion_from_All (IsSmall n router) (links_of n router) (items.All-from (IsSmall n router) (links_of n router) (λ link there.
     let ranged = in-range 1 (link_count n) link (items.from_filter (has_end n router) (numbers (link_count n)) link there).0 in
     let high : link < 1 + link_count n = ranged.1 in
     let most = port-few n router link in
-    (omega arith, omega arith))
+    (omega arith, omega arith)))
 
 -- why a text is no router file, if it is none, told of what it sets
 pub record IsRouterFile (text : List ℕ) (config : Config) : Type 0 where
@@ -109,11 +106,10 @@ module _ (n router : ℕ) (few : n ≤ 40) (own : router ≤ n) where
 said-all : (f : ℕ → List ℕ) (g : ℕ → Config) (xs : List ℕ) (configs : List Config) → ((x : ℕ) → Contains xs x → (c : Config) → HasSettings (f x) c → c ≡ g x) →
     AllZip HasSettings (map f xs) configs → configs ≡ map g xs
 said-all f g [] [] each said = refl
-said-all f g [] (c ∷ configs) each said = absurd said
-said-all f g (x ∷ xs) [] each said = absurd said
 said-all f g (x ∷ xs) (c ∷ configs) each said =
     ap (λ d. d ∷ configs) (each x (items.Contains-head x xs) c said.0)
     ∙ ap (λ ds. g x ∷ ds) (said-all f g xs configs (λ y there. each y (items.Contains-tail x y xs there)) said.1)
+said-all f g xs configs each said = absurd said
 
 -- the files set this, and none of them is no router file
 pub files-say : (n : ℕ) (configs : List Config) → n ≤ 40 → AllZip HasSettings (router_texts n) configs → configs ≡ all_settings n

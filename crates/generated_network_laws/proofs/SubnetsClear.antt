@@ -1,5 +1,5 @@
 -- No two interfaces of a generated network overlap, and its policies go between host networks.
-use Rattle.std.proofs.Common.{◌≡◌, ◌≢◌, ℕ, ◌+◌, ◌-◌, ◌/◌, ◌<◌, ◌≤◌, ◌==◌, ◌⊎◌, inl, inr, Bool, true, false, Option, Some, None, List, sym, ap, subst, ◌∙◌, arith, ⊎_elim, if◌then◌else◌}
+use Rattle.std.proofs.Common.{◌≡◌, ◌≢◌, ℕ, ◌+◌, ◌-◌, ◌/◌, ◌<◌, ◌≤◌, ◌==◌, ◌⊎◌, inl, inr, Bool, true, false, Option, Some, List, sym, ap, subst, ◌∙◌, arith, ⊎_elim, if◌then◌else◌}
 use Rattle.std.specs.Prelude.{slice_get, IsSomeAnd, IfSome}
 use Rattle.std.proofs.lemmas.Bool.{cases_eq, eqb-true}
 use Rattle.arc_base.specs.declared.prefix.Prefix.{Prefix}
@@ -18,6 +18,7 @@ use Rattle.net_rules.specs.Settings.{address_of, IsPrefixAt}
 use Rattle.net_rules.specs.Sites.{Site, sites, full_names}
 use Rattle.net_rules.proofs.Distinct.{one_place, Contains-at}
 use Rattle.net_rules.proofs.SiteFacts.{name_at_site}
+use Rattle.net_build.proofs.NetworkTried.{turn_apart}
 use Rattle.net_gen.specs.Plans.{link_count, a_router, has_end}
 use Rattle.net_gen.specs.RouterFiles.{host_name, face_name, address}
 use Rattle.net_gen.specs.Generated.{link_text}
@@ -32,20 +33,13 @@ use Rattle.generated_network_laws.proofs.Said.{all_settings}
 -- prefixes at addresses that have no address in common
 disjoint : (x len y other : ℕ) (o q : Option Prefix) → ((a : ℕ) → block_of len a ≡ block_of len x → block_of other a ≡ block_of other y → ⊥) →
     IsSomeAnd o (IsPrefixAt x len) → IsSomeAnd q (IsPrefixAt y other) → IfSome o (λ p. IfSome q (AreDisjoint p))
-disjoint x len y other None q never one two = tt
-disjoint x len y other (Some p) None never one two = tt
 disjoint x len y other (Some p) (Some q) never one two = λ a in-p in-q.
     let facts-p = prefix-facts x len p one in
     let facts-q = prefix-facts y other q two in
     let here : (block_of len a == block_of len p.addr) ≡ true = subst (λ l. (block_of l a == block_of l p.addr) ≡ true) one.0 in-p in
     let there : (block_of other a == block_of other q.addr) ≡ true = subst (λ l. (block_of l a == block_of l q.addr) ≡ true) two.0 in-q in
     never a (eqb-true (block_of len a) (block_of len p.addr) here ∙ sym facts-p.1) (eqb-true (block_of other a) (block_of other q.addr) there ∙ sym facts-q.1)
-
-turned : (o q : Option Prefix) → IfSome o (λ p. IfSome q (AreDisjoint p)) → IfSome q (λ p. IfSome o (AreDisjoint p))
-turned None None apart = tt
-turned None (Some q) apart = tt
-turned (Some p) None apart = tt
-turned (Some p) (Some q) apart = λ a in-q in-p. apart a in-p in-q
+disjoint x len y other o n never one two = tt
 
 end-few : (n router link : ℕ) → end_of n router link < 4
 end-few n router link = by (a_router n link == router)
@@ -120,7 +114,7 @@ module _ (n : ℕ) (doc : Document) (net : Network) (rows : AreRows doc (all_set
               elim k.face [
                 | inl other ↦
                     let sub-g : IsSomeAnd g.subnet (IsPrefixAt (address k.router 0 1) 24) = subst (λ (face : FaceText). IsSubnet (address_of face) g.subnet) other two.2.subnet in
-                    inr (turned g.subnet f.subnet (disjoint (address k.router 0 1) 24 (address 0 over.link (end_of n h.router over.link)) 30 g.subnet f.subnet
+                    inr (turn_apart g.subnet f.subnet (disjoint (address k.router 0 1) 24 (address 0 over.link (end_of n h.router over.link)) 30 g.subnet f.subnet
                     (λ a here there. host-link-never k.router over.link (end_of n h.router over.link) a k.low (omega arith) (end-few n h.router over.link) here there) sub-g sub-f))
                 | inr last ↦
                     let sub-g : IsSomeAnd g.subnet (IsPrefixAt (address 0 last.link (end_of n k.router last.link)) 30) =

@@ -1,7 +1,7 @@
 -- Texts that are made of lines, each with a line feed after it.
 use Rattle.std.proofs.Common.{◌≡◌, ℕ, List, [], ◌∷◌, ◌++◌, map, refl, sym, ap, ◌∙◌, inl}
 use Rattle.std.specs.List.{AllByRecursion}
-use Rattle.ios_lines.specs.Ended.{Ended, AreEnded, IsEnded, IsFree, HasNoReturn}
+use Rattle.ios_lines.specs.Ended.{Ended, AreEnded, IsFree, HasNoReturn}
 use Rattle.ios_lines.specs.Ended as ended_lines
 use Rattle.ios_lines.specs.Texts.{text_lines}
 use Rattle.ios_lines.proofs.EndedLines.{lines-of-text}

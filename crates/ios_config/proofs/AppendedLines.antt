@@ -1,7 +1,7 @@
 -- A line that is put at the end of a block.
 use Rattle.std.proofs.Common.{◌≡◌, ◌≢◌, ℕ, suc, ◌+◌, ◌<◌, ◌≤◌, ◌||◌, not, Bool, true, false, List, [], ◌∷◌, ◌++◌}
 use Rattle.std.proofs.Common.{length, map, slice_get, take, Some, None, append-nil, refl, sym, ap, subst, ◌∙◌, arith, ⊎_elim, inl, Contains}
-use Rattle.std.proofs.lemmas.Bool.{cases_Bool, cond-false}
+use Rattle.std.proofs.lemmas.Bool.{cases_Bool, cond-false, not-true}
 use Rattle.std.proofs.lemmas.List.Elements.{filter-append, Contains-append_right, Contains-append_cases}
 use Rattle.std.specs.List.{list_any, enumerate_from, AllByRecursion}
 use Rattle.arc_base.proofs.Items.{Contains-cases, Contains-none, Contains-head, Contains-tail, from_filter}
@@ -41,10 +41,6 @@ numbered-at n (m ∷ marks) k x has = ⊎_elim
     (λ later. let deeper = numbered-at (n + 1) marks k x later in (suc deeper.0, (let number : k ≡ n + 1 + deeper.0 = deeper.1 in omega arith), deeper.2))
     (Contains-cases (n, m) (k, x) (enumerate_from (n + 1) marks) has)
 
-pub not-inert : (b : Bool) → not b ≡ true → b ≡ false
-not-inert true is = absurd cc
-not-inert false is = refl
-
 -- what the row of a command tells of its place
 pub record CommandPlace (lines : List (List ℕ)) (c : FileCommand) : Type 0 where
   pub place : ℕ
@@ -61,7 +57,7 @@ command-place text lines commands c cut new more have among =
     let (numbered, says) = from_filter (λ (x : ℕ × Mark). not x.1.inert) (numbered_marks marks) l there in
     let (place, number, at) = numbered-at 1 marks l.0 l.1 numbered in
     let row : c.line ≡ place + 1 = let line = r.line in omega arith in
-    record { place = place; mark = l.1; line = row; block = r.block; told = rows-tell text lines place l.1 have.old_lines cut at (not-inert l.1.inert says) }
+    record { place = place; mark = l.1; line = row; block = r.block; told = rows-tell text lines place l.1 have.old_lines cut at (not-true l.1.inert says) }
 
 -- some command has the part
 pub any-part : (part : Part) (cs : List FileCommand) (c : FileCommand) → Contains cs c → part_of c ≡ part → list_any (is_same part) (map part_of cs) ≡ true

@@ -16,7 +16,7 @@ use Rattle.ios_config.specs.Values.{Says, given_at, last_setting, hostname}
 use Rattle.ios_config.proofs.BareSettings.{bare-setting}
 
 -- a command that says nothing of a value leaves it
-setting-stays : {V : Type 0} → (says : Says V) (front : List FileCommand) (c : FileCommand) (back : List FileCommand) → says c.command ≡ None →
+pub setting-stays : {V : Type 0} → (says : Says V) (front : List FileCommand) (c : FileCommand) (back : List FileCommand) → says c.command ≡ None →
     last_setting says (front ++ c ∷ back) ≡ last_setting says (front ++ back)
 setting-stays {V} says front c back silent =
     let f : FileCommand → Option (Given V) = λ d. given_at d.line (says d.command) in
@@ -27,7 +27,7 @@ setting-stays {V} says front c back silent =
     ∙ sym (find-append p (reverse back) (reverse front)))
     ∙ ap (λ l. option_and_then f (find p l)) (sym (reverse-append front back))
 
-named : (o : Option (Given (List ℕ))) → option_map bare_setting (option_map (λ (g : Given (List ℕ)). record { name = g.value; line = g.line }) o) ≡ option_map
+pub named : (o : Option (Given (List ℕ))) → option_map bare_setting (option_map (λ (g : Given (List ℕ)). record { name = g.value; line = g.line }) o) ≡ option_map
     (λ (g : Given (List ℕ)). record { name = g.value; line = g.line }) (bare_option o)
 named None = refl
 named (Some g) = refl

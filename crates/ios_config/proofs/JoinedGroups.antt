@@ -1,6 +1,6 @@
 -- The groups of a file's commands where one command more stands among them.
 use Rattle.std.proofs.Common.{◌≡◌, ℕ, Bool, true, false, cond, List, [], ◌∷◌, ◌++◌, map, refl, sym, ap, ◌∙◌, ◌⊎◌, inl, inr}
-use Rattle.std.proofs.lemmas.Bool.{cond-true, cond-false}
+use Rattle.std.proofs.lemmas.Bool.{cond-true, cond-false, or_parts}
 use Rattle.std.proofs.lemmas.List.{map-append}
 use Rattle.std.proofs.lemmas.List.Elements.{filter-append}
 use Rattle.std.proofs.lemmas.Simd.{map-map}
@@ -10,7 +10,7 @@ use Rattle.ios_config.specs.Groups.{Part, is_same, part_of, distinct, members, g
 use Rattle.ios_config.specs.Inserted.{command_moved}
 use Rattle.ios_config.specs.Joined.{part_moved, between, members_with, StandsBeside, ACommandJoinsItsGroup, ACommandBeginsItsGroup}
 use Rattle.ios_config.proofs.JoinedParts.{part-moved, same-moved, distinct-old, distinct-next, distinct-moved, any-moved, any-append, any-distinct, other-way, is-self, distinct-new}
-use Rattle.ios_config.proofs.PartLists.{neither}
+use Rattle.ios_config.proofs.PartLists.{none_named}
 
 -- the members of a part whose number is moved
 member-step : (place : ℕ) (part : Part) (d : FileCommand) (ds : List FileCommand) (b : Bool) →
@@ -88,12 +88,6 @@ joins-group place front c back part is beside =
     ∙ same-map (λ p. members (between place front c back) (part_moved place p)) (λ p. members_with place front c back p (is_same p part)) (distinct (map part_of (front ++ back)))
     (λ p. members-between place front c back p (is_same p part) (ap (is_same (part_moved place p)) is ∙ same-moved place p part))
 
-none-members : (part : Part) (ds : List FileCommand) → list_any (is_same part) (map part_of ds) ≡ false → members ds part ≡ []
-none-members part [] none = refl
-none-members part (d ∷ ds) none =
-    let parts = neither (is_same part (part_of d)) (list_any (is_same part) (map part_of ds)) none in
-    cond-false (is_same part (part_of d)) (d ∷ members ds part) (members ds part) parts.0 ∙ none-members part ds parts.1
-
 -- a part that is not that of the new command has the members that it had
 members-other : (part : Part) (front : List FileCommand) (c : FileCommand) (back : List FileCommand) → is_same part (part_of c) ≡ false →
     members (front ++ c ∷ back) part ≡ members (front ++ back) part
@@ -108,14 +102,14 @@ members-new front c back none =
     let parts = any-append (is_same (part_of c)) (map part_of front) (map part_of back) (sym (ap (list_any (is_same (part_of c))) (map-append part_of front back)) ∙ none) in
     filter-append (λ d. is_same (part_of c) (part_of d)) front (c ∷ back)
     ∙ ap (λ r. members front (part_of c) ++ r) (cond-true (is_same (part_of c) (part_of c)) (c ∷ members back (part_of c)) (members back (part_of c)) (is-self (part_of c)))
-    ∙ ap (λ r. r ++ c ∷ members back (part_of c)) (none-members (part_of c) front parts.0)
-    ∙ ap (λ r. c ∷ r) (none-members (part_of c) back parts.1)
+    ∙ ap (λ r. r ++ c ∷ members back (part_of c)) (none_named (part_of c) front parts.0)
+    ∙ ap (λ r. c ∷ r) (none_named (part_of c) back parts.1)
 
 -- what is the same of each item that is not the new one
 pub map-apart : {A : Type 0} → (f g : Part → A) (y : Part) (ps : List Part) → list_any (is_same y) ps ≡ false → ((p : Part) → is_same p y ≡ false → f p ≡ g p) → map f ps ≡ map g ps
 map-apart f g y [] none same = refl
 map-apart f g y (p ∷ ps) none same =
-    let parts = neither (is_same y p) (list_any (is_same y) ps) none in
+    let parts = or_parts (is_same y p) (list_any (is_same y) ps) none in
     ap (λ x. x ∷ map f ps) (same p (other-way p y parts.0)) ∙ ap (λ xs. g p ∷ xs) (map-apart f g y ps parts.1 same)
 
 -- the same, where no number is moved

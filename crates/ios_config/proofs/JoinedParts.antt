@@ -1,6 +1,6 @@
 -- The parts of commands where one stands among others.
 use Rattle.std.proofs.Common.{◌≡◌, ℕ, ◌==◌, ◌||◌, not, Bool, true, false, cond, List, [], ◌∷◌, ◌++◌, map, filter, refl, sym, ap, append_assoc, subst, ◌∙◌, arith, ⊎_elim}
-use Rattle.std.proofs.lemmas.Bool.{cases_Bool, cases_eq, cases_lt, eq-eqb, ne_eqb, cond-true, cond-false}
+use Rattle.std.proofs.lemmas.Bool.{cases_Bool, cases_eq, cases_lt, eq-eqb, ne_eqb, cond-true, cond-false, or_parts}
 use Rattle.std.proofs.lemmas.List.Elements.{filter-append}
 use Rattle.std.specs.List.{list_any}
 use Rattle.ios_lines.specs.Changes.{moved}
@@ -11,7 +11,7 @@ use Rattle.ios_words.specs.declared.commands.Command.TheVariants.{ListLine, Pref
 use Rattle.ios_config.specs.Groups.{Part, Block, Lines, PrefixLines, is_same, part_in, part_of, distinct}
 use Rattle.ios_config.specs.Inserted.{command_moved}
 use Rattle.ios_config.specs.Joined.{part_moved}
-use Rattle.ios_config.proofs.PartLists.{is_same-Decides, neither, others}
+use Rattle.ios_config.proofs.PartLists.{is_same-Decides, others}
 
 -- the part of a command whose numbers are moved
 part-in : (place block : ℕ) (command : Command) → part_in (moved place block) command ≡ part_moved place (part_in block command)
@@ -146,10 +146,10 @@ pub record StandsAmong (y : Part) (old new : List Part) : Type 0 where
   pub was : old ≡ before ++ after
   pub is : new ≡ before ++ y ∷ after
 
-others-none : (y : Part) (ps : List Part) → list_any (is_same y) ps ≡ false → others y ps ≡ ps
+pub others-none : (y : Part) (ps : List Part) → list_any (is_same y) ps ≡ false → others y ps ≡ ps
 others-none y [] none = refl
 others-none y (p ∷ ps) none =
-    let parts = neither (is_same y p) (list_any (is_same y) ps) none in
+    let parts = or_parts (is_same y p) (list_any (is_same y) ps) none in
     cond-true (not (is_same y p)) (p ∷ others y ps) (others y ps) (ap not parts.0) ∙ ap (λ r. p ∷ r) (others-none y ps parts.1)
 
 pub other-way : (x y : Part) → is_same y x ≡ false → is_same x y ≡ false
@@ -162,14 +162,14 @@ other-way x y apart = ⊎_elim
 pub any-append : (p : Part → Bool) (xs ys : List Part) → list_any p (xs ++ ys) ≡ false → (list_any p xs ≡ false) × (list_any p ys ≡ false)
 any-append p [] ys none = (refl, none)
 any-append p (x ∷ xs) ys none =
-    let parts = neither (p x) (list_any p (xs ++ ys)) none in
+    let parts = or_parts (p x) (list_any p (xs ++ ys)) none in
     let deeper = any-append p xs ys parts.1 in
     (ap (λ b. b || list_any p xs) parts.0 ∙ deeper.0, deeper.1)
 
 pub any-others : (y x : Part) (ps : List Part) → list_any (is_same y) ps ≡ false → list_any (is_same y) (others x ps) ≡ false
 any-others y x [] none = refl
 any-others y x (p ∷ ps) none =
-    let parts = neither (is_same y p) (list_any (is_same y) ps) none in
+    let parts = or_parts (is_same y p) (list_any (is_same y) ps) none in
     let rest = any-others y x ps parts.1 in
     choice (not (is_same x p)) p (others x ps) parts.0 rest
   where
@@ -180,13 +180,13 @@ any-others y x (p ∷ ps) none =
 pub any-distinct : (y : Part) (ps : List Part) → list_any (is_same y) ps ≡ false → list_any (is_same y) (distinct ps) ≡ false
 any-distinct y [] none = refl
 any-distinct y (p ∷ ps) none =
-    let parts = neither (is_same y p) (list_any (is_same y) ps) none in
+    let parts = or_parts (is_same y p) (list_any (is_same y) ps) none in
     ap (λ b. b || list_any (is_same y) (others p (distinct ps))) parts.0 ∙ any-others y p (distinct ps) (any-distinct y ps parts.1)
 
 pub distinct-new : (y : Part) (xs zs : List Part) → list_any (is_same y) (xs ++ zs) ≡ false → StandsAmong y (distinct (xs ++ zs)) (distinct (xs ++ y ∷ zs))
 distinct-new y [] zs none = record { before = []; after = distinct zs; was = refl; is = ap (λ r. y ∷ r) (others-none y (distinct zs) (any-distinct y zs none)) }
 distinct-new y (x ∷ xs) zs none =
-    let parts = neither (is_same y x) (list_any (is_same y) (xs ++ zs)) none in
+    let parts = or_parts (is_same y x) (list_any (is_same y) (xs ++ zs)) none in
     let deeper = distinct-new y xs zs parts.1 in
     let keeps : not (is_same x y) ≡ true = ap not (other-way x y parts.0) in
     record {

@@ -1,5 +1,5 @@
 -- The bare groups of a file's commands where one command more stands among them.
-use Rattle.std.proofs.Common.{◌≡◌, ℕ, ◌||◌, not, Bool, true, false, cond, List, [], ◌∷◌, ◌++◌, map, refl, sym, ap, subst, ◌∙◌, ⊎_elim, ◌⊎◌, inl, inr, flat_map}
+use Rattle.std.proofs.Common.{◌≡◌, ℕ, ◌||◌, not, Bool, true, false, List, [], ◌∷◌, ◌++◌, map, refl, sym, ap, subst, ◌∙◌, ⊎_elim, ◌⊎◌, inl, inr, flat_map}
 use Rattle.std.proofs.lemmas.Bool.{cases_Bool, cond-true}
 use Rattle.std.proofs.lemmas.List.{map-append}
 use Rattle.std.proofs.lemmas.List.Elements.{filter-append}
@@ -19,7 +19,7 @@ use Rattle.ios_config.specs.Inserted.{command_moved, with_command}
 use Rattle.ios_config.specs.Joined.{between, members_with, part_moved, StandsBeside}
 use Rattle.ios_config.proofs.JoinedGroups.{joins-group, begins-group, beside-parts, map-apart, same-map}
 use Rattle.ios_config.proofs.JoinedParts.{any-others, other-way, is-self}
-use Rattle.ios_config.proofs.PartLists.{is_same-Decides, others}
+use Rattle.ios_config.proofs.PartLists.{is_same-Decides, others, others_lack}
 
 -- a part that stands among others stands there once
 record StandsOnce (part : Part) (ps : List Part) : Type 0 where
@@ -28,14 +28,6 @@ record StandsOnce (part : Part) (ps : List Part) : Type 0 where
   split : ps ≡ before ++ part ∷ after
   none_before : list_any (is_same part) before ≡ false
   none_after : list_any (is_same part) after ≡ false
-
-others-lack : (part : Part) (ps : List Part) → list_any (is_same part) (others part ps) ≡ false
-others-lack part [] = refl
-others-lack part (p ∷ ps) = by (is_same part p) refl (others-lack part ps)
-  where
-    by : (b : Bool) → is_same part p ≡ b → list_any (is_same part) (others part ps) ≡ false → list_any (is_same part) (cond (not b) (p ∷ others part ps) (others part ps)) ≡ false
-    by true is rest = rest
-    by false is rest = ap (λ c. c || list_any (is_same part) (others part ps)) is ∙ rest
 
 -- what is left aside of a list in which the part stands once
 once-others : (x part : Part) (ps : List Part) → is_same x part ≡ false → StandsOnce part ps → StandsOnce part (others x ps)
@@ -54,7 +46,7 @@ stands-once part (p ∷ ps) has = ⊎_elim
     (λ here.
     let same : part ≡ p = (is_same-Decides part p).0 here in
     subst (λ (q : Part). StandsOnce part (q ∷ others q (distinct ps))) same
-    (record { before = []; after = others part (distinct ps); split = refl; none_before = refl; none_after = others-lack part (distinct ps) }))
+    (record { before = []; after = others part (distinct ps); split = refl; none_before = refl; none_after = others_lack part (distinct ps) }))
     (λ other.
     let later : list_any (is_same part) ps ≡ true = sym (ap (λ b. b || list_any (is_same part) ps) other) ∙ has in
     let deeper = once-others p part (distinct ps) (other-way p part other) (stands-once part ps later) in

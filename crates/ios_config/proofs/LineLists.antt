@@ -1,7 +1,7 @@
 -- The commands of a list of lines, and what a line more does to them.
 use Rattle.std.proofs.Common.{◌≡◌, ◌≢◌, ℕ, ◌+◌, ◌<◌, ◌≤◌, ◌==◌, ◌||◌, not, true, false, List, [], length}
 use Rattle.std.proofs.Common.{length-take-le, map, take, slice_get, get_or, Some, None, refl, sym, ap, subst, ◌∙◌, arith, Contains, MatchBool}
-use Rattle.std.proofs.lemmas.Bool.{ne_eqb}
+use Rattle.std.proofs.lemmas.Bool.{ne_eqb, not-true}
 use Rattle.std.proofs.lemmas.List.{length-map}
 use Rattle.std.proofs.lemmas.Option.{same_Some, slice_get-map, slice_get_within}
 use Rattle.std.specs.Prelude.{option_map}
@@ -20,7 +20,7 @@ use Rattle.ios_words.specs.declared.kinds.BlockKind.TheVariants as kinds
 use Rattle.ios_config.specs.declared.commands.FileCommand.{FileCommand}
 use Rattle.ios_config.specs.Inserted.{numbered_marks, command_marks, MarkOpens, IsMarkRead, AreMarksRead, Opened, command_moved, command_at, with_command}
 use Rattle.ios_config.specs.LineLists.{marks_in, AreCommandsIn, CommandsAreOfLines, AnInnerLineIsIn, AHeadIsIn, ASingleLineIsIn, AClosingLineIsIn, ALineIsAppendedIn}
-use Rattle.ios_config.proofs.AppendedLines.{numbered-at, not-inert, CommandPlace, block-sets}
+use Rattle.ios_config.proofs.AppendedLines.{numbered-at, CommandPlace, block-sets}
 use Rattle.ios_config.proofs.InsertedCommands.{with-one, with-none, still-opens, marks-split}
 use Rattle.ios_config.proofs.InsertedLines.{head-opens, zip-found}
 use Rattle.ios_config.proofs.MarkCommands.{commands-of-marks}
@@ -120,7 +120,7 @@ command-spot lines commands c are among =
     let (numbered, says) = from_filter (λ (x : ℕ × Mark). not x.1.inert) (numbered_marks marks) l there in
     let (place, number, at) = numbered-at 1 marks l.0 l.1 numbered in
     let row : c.line ≡ place + 1 = let line = r.line in omega arith in
-    record { place = place; mark = l.1; line = row; block = r.block; told = spot-of lines place l.1 (stand-all lines are.no_orphan) at (not-inert l.1.inert says) }
+    record { place = place; mark = l.1; line = row; block = r.block; told = spot-of lines place l.1 (stand-all lines are.no_orphan) at (not-true l.1.inert says) }
 
 pub appended-in : ALineIsAppendedIn
 appended-in lines commands head last within line command are b of =

@@ -1,7 +1,7 @@
 -- The numbered lines of a file, as many as are read.
 use Rattle.std.proofs.Common.{◌≡◌, ℕ, ◌+◌, ◌<◌, ◌≤◌, not, Bool, true, false, List, [], ◌∷◌, ◌++◌, length, get_or, take, drop, filter, Some, sym, ◌∙◌, ap, arith, cond}
 use Rattle.std.specs.Prelude.{slice_get}
-use Rattle.std.specs.List.{AllZip, enumerate_from}
+use Rattle.std.specs.List.{enumerate_from}
 use Rattle.std.proofs.lemmas.List.{append-nil, take_more, drop_more, take-append-drop, take_all, length-take-le}
 use Rattle.std.proofs.lemmas.List.Elements.{filter-append}
 use Rattle.std.proofs.lemmas.Option.{slice_get_within, get_or_from_slice_get}
@@ -16,13 +16,6 @@ enumerated m [] ys = ap (λ k. enumerate_from k ys) (omega arith)
 enumerated m (x ∷ xs) ys =
     let e : m + 1 + length xs ≡ m + length (x ∷ xs) = omega arith in
     ap (λ l. (m, x) ∷ l) (enumerated (m + 1) xs ys ∙ ap (λ k. enumerate_from (m + 1) xs ++ enumerate_from k ys) e)
-
--- a relation of two lists at one more place
-pub AllZip-more : {A B : Type 0} (R : A → B → Type 0) (xs : List A) (ys : List B) (x : A) (y : B) → AllZip R xs ys → R x y → AllZip R (xs ++ x ∷ []) (ys ++ y ∷ [])
-AllZip-more R [] [] x y all r = (r, tt)
-AllZip-more R [] (z ∷ ys) x y all r = absurd all
-AllZip-more R (z ∷ xs) [] x y all r = absurd all
-AllZip-more R (z ∷ xs) (w ∷ ys) x y all r = (all.0, AllZip-more R xs ys x y all.1 r)
 
 -- the line says something
 abbrev pub is_filled : ℕ × Line → Bool

@@ -3,7 +3,7 @@ use Rattle.std.proofs.Common.{◌≡◌, ◌≢◌, ℕ, zero, suc, ◌+◌, ◌
 use Rattle.std.proofs.Common.{List, [], ◌∷◌, length, get_or, take, filter, Some, None, refl, sym, ◌∙◌, ap, subst, arith, MatchBool, if◌then◌else◌}
 use Rattle.std.specs.Prelude.{slice_get, slice_index_or, codes, Contains}
 use Rattle.std.specs.List.{enumerate_from}
-use Rattle.std.proofs.lemmas.Bool.{false≢true, cases_lt}
+use Rattle.std.proofs.lemmas.Bool.{false≢true, cases_lt, or_parts}
 use Rattle.std.proofs.Common.{eq-eqb}
 use Rattle.std.proofs.lemmas.List.FromFn.{length-enumerate_from, get_or-enumerate_from}
 use Rattle.std.proofs.lemmas.Option.{slice_get_within, get_or_from_slice_get}
@@ -69,10 +69,6 @@ head_closes lines n =
       | Some delimiter ↦ λ h. refl
     ]
 
-neither : (a b : Bool) → (a || b) ≡ false → (a ≡ false) × (b ≡ false)
-neither true b e = absurd (false≢true (sym e))
-neither false b e = (refl, e)
-
 -- a number and its line are among the numbered ones
 at_number : (lines : Lines) (n : ℕ) (r : Line) → slice_get lines.rows n ≡ Some r → Contains (numbered lines) (suc n, r)
 at_number lines n r at =
@@ -118,7 +114,7 @@ module _ (text : List ℕ) (lines : Lines) (n : ℕ) (r : Line) (row : IsRow tex
       by : (b : Bool) → is_top r ≡ b → MatchBool b ((if b then kinds.Top else current) ≡ kinds.Top) (Opens text lines r.block (if b then kinds.Top else current))
       by true e = refl
       by false e =
-          let parts = neither r.head (r.block == 0) e in
+          let parts = or_parts r.head (r.block == 0) e in
           inner r.block parts.0 (λ z. false≢true (sym parts.1 ∙ eq-eqb r.block 0 z)) row.block
 
   module _ (at : slice_get lines.rows n ≡ Some r) where

@@ -1,16 +1,17 @@
 -- A command that heads a block stands in a block of its own number.
-use Rattle.std.proofs.Common.{◌≡◌, ℕ, zero, suc, ◌+◌, ◌<◌, ◌==◌, ◌⊎◌, ◌||◌, ◌&&◌, inl, inr, not, Bool, true, false, if◌then◌else◌, List}
+use Rattle.std.proofs.Common.{◌≡◌, ℕ, ◌+◌, ◌<◌, ◌==◌, ◌⊎◌, ◌||◌, ◌&&◌, not, Bool, true, false, if◌then◌else◌, List}
 use Rattle.std.proofs.Common.{[], ◌∷◌, length, take, slice_get, get_or, Some, None, refl, sym, ap, subst, ◌∙◌, arith, ⊎_elim, Contains, MatchBool, codes}
-use Rattle.std.proofs.lemmas.Bool.{cases_Bool, false≢true, true≢false, and_parts, eqb-true, eqb-false}
+use Rattle.std.proofs.lemmas.Bool.{cases_Bool, false≢true, true≢false, and_parts, eqb-true, eqb-false, or_cases, not-true}
 use Rattle.std.proofs.lemmas.Option.{same_Some, slice_get-map, slice_get_within}
 use Rattle.std.proofs.lemmas.List.{length-map}
 use Rattle.std.specs.Prelude.{option_map, bytes_eq}
-use Rattle.std.specs.List.{AllByRecursion, list_any, list_all, starts_with}
+use Rattle.std.specs.List.{list_any, list_all, starts_with}
 use Rattle.arc_base.proofs.Items.{from_filter}
 use Rattle.ios_lines.specs.Kinds.{is_head, is_inert, kind, kind_at, kind_within, words_kind, is_mark, is_banner, is_indented, opens_block, single_heads}
 use Rattle.ios_lines.specs.Reading.{block_after, is_alone}
 use Rattle.ios_lines.specs.Views.{Mark, mark_seen, seen, seen_in, open_block}
 use Rattle.arc_base.specs.Words.{words}
+use Rattle.arc_base.proofs.Zips.{at_place}
 use Rattle.ios_lines.proofs.ChangedTexts.{seen-at, place-of}
 use Rattle.ios_lines.proofs.Insertions.{length-seen}
 use Rattle.ios_lines.proofs.Orphans.{NotAlone, stand-all}
@@ -26,6 +27,7 @@ use Rattle.std.specs.Prelude.{is_ok}
 use Rattle.std.proofs.lemmas.Option.{none-some}
 use Rattle.std.proofs.lemmas.Bool.{cond-true, cond-false}
 use Rattle.std.proofs.lemmas.Slice.Eq.{bytes_eq-Decides}
+use Rattle.std.proofs.lemmas.List.Elements.{All-from_recursion}
 use Rattle.ios_words.specs.Commands.{completes}
 use Rattle.ios_words.specs.Readings.{matches, read}
 use Rattle.ios_words.specs.Rows.{Rule}
@@ -37,7 +39,7 @@ use Rattle.ios_config.specs.LineLists.{marks_in, AreCommandsIn}
 use Rattle.ios_config.proofs.AppendedLines.{numbered-at}
 use Rattle.ios_config.proofs.InsertedLines.{zip-found}
 
-never-top : (command : Command) → opened_by command ≡ kinds.Top → ⊥
+pub never-top : (command : Command) → opened_by command ≡ kinds.Top → ⊥
 never-top (commands.Interface name) e = absurd cc
 never-top (commands.RouterOspf number) e = absurd cc
 never-top (commands.RouterBgp number) e = absurd cc
@@ -91,10 +93,6 @@ starts-two (w ∷ v ∷ r) h k is =
     let second : v ≡ k = sym ((bytes_eq-Decides k v).0 (and_parts (bytes_eq k v) true parts.1).0) in
     (r, λ i. first i ∷ second i ∷ r)
 
-or-cases : (a b : Bool) → (a || b) ≡ true → (a ≡ true) ⊎ (b ≡ true)
-or-cases true b is = inl refl
-or-cases false b is = inr is
-
 -- a top line that opens no block heads none
 single-heads : (ws : List (List ℕ)) (command : Command) → list_any (λ head. starts_with bytes_eq ws head) single_heads ≡ true →
     ReadBy false ws (rows kinds.Top) command → heads_block command ≡ true → ⊥
@@ -105,9 +103,9 @@ single-heads ws command single reads is = ⊎_elim
     (λ last. ⊎_elim
     (λ three. let (r, same) = starts-two ws (codes "ip") (codes "prefix-list") three in filtered r (subst (λ (x : List (List ℕ)). ReadBy false x (rows kinds.Top) command) same reads))
     (λ none. absurd (false≢true none))
-    (or-cases (starts_with bytes_eq ws (codes "ip" ∷ codes "prefix-list" ∷ [])) false last))
-    (or-cases (starts_with bytes_eq ws (codes "access-list" ∷ [])) (starts_with bytes_eq ws (codes "ip" ∷ codes "prefix-list" ∷ []) || false) more))
-    (or-cases (starts_with bytes_eq ws (codes "hostname" ∷ []))
+    (or_cases (starts_with bytes_eq ws (codes "ip" ∷ codes "prefix-list" ∷ [])) false last))
+    (or_cases (starts_with bytes_eq ws (codes "access-list" ∷ [])) (starts_with bytes_eq ws (codes "ip" ∷ codes "prefix-list" ∷ []) || false) more))
+    (or_cases (starts_with bytes_eq ws (codes "hostname" ∷ []))
     (starts_with bytes_eq ws (codes "access-list" ∷ []) || (starts_with bytes_eq ws (codes "ip" ∷ codes "prefix-list" ∷ []) || false)) single)
   where
     named : (r : List (List ℕ)) → ReadBy false (codes "hostname" ∷ r) (rows kinds.Top) command → ⊥
@@ -149,12 +147,6 @@ words-single false (w ∷ r) number block says headless none alone = ⊎_elim
     (cases_Bool (is_banner (w ∷ r))))
     (cases_Bool (is_mark w))
 
--- what holds of all holds of one
-all-get : {X : Type 0} (P : X → Type 0) (xs : List X) (k : ℕ) (x : X) → AllByRecursion P xs → slice_get xs k ≡ Some x → P x
-all-get P [] k x all is = absurd (none-some x is)
-all-get P (y ∷ xs) zero x all is = subst P (same_Some y x is) all.0
-all-get P (y ∷ xs) (suc k) x all is = all-get P xs k x all.1 is
-
 -- a command that heads a block has its own number as its block's
 module _ (lines : List (List ℕ)) (cs : List FileCommand) (c : FileCommand) (are : AreCommandsIn lines cs) (among : Contains cs c) (heads_it : heads_block c.command ≡ true) where
   own-by : (place : ℕ) (line : List ℕ) (block : ℕ) → is_alone (kind line) (block_after (kind line) (place + 1) block) ≡ false →
@@ -193,21 +185,17 @@ module _ (lines : List (List ℕ)) (cs : List FileCommand) (c : FileCommand) (ar
       slice_get-map mark_seen (seen lines) place ∙ ap (option_map mark_seen) (seen-at lines place low) in
       let s = seen_in (place + 1) line (kind_at lines place) block in
       let same : mark_seen s ≡ l.1 = same_Some (mark_seen s) l.1 (sym seen_mark ∙ at) in
-      let said : is_inert (kind_at lines place) ≡ false = not-inert (is_inert (kind_at lines place)) (ap (λ (m : Mark). not m.inert) same ∙ says) in
+      let said : is_inert (kind_at lines place) ≡ false = not-true (is_inert (kind_at lines place)) (ap (λ (m : Mark). not m.inert) same ∙ says) in
       let told = place-of lines place (stand-all lines are.no_orphan) low said in
       let k : kind_at lines place ≡ kind line = ap (λ b. kind_within b line) told.before in
       let row : l.0 ≡ place + 1 = omega arith in
       let both : l ≡ (place + 1, mark_seen s) = λ i. (row i, sym same i) in
       let read = subst (λ (x : ℕ × Mark). IsMarkRead marks x c) both r in
       let alone : is_alone (kind_at lines place) (block_after (kind_at lines place) (place + 1) block) ≡ false =
-      all-get NotAlone (seen lines) place s (stand-all lines are.no_orphan) (seen-at lines place low) in
+      at_place NotAlone (seen lines) place (All-from_recursion NotAlone (seen lines) (stand-all lines are.no_orphan)) s (seen-at lines place low) in
       let own = own-by place line block
       (subst (λ x. is_alone x (block_after x (place + 1) block) ≡ false) k alone)
       (subst (λ x. IsMarkRead marks (place + 1, mark_seen (seen_in (place + 1) line x block)) c) k read)
       (subst (λ x. is_inert x ≡ false) k said)
       (subst (λ x. is_head x ≡ true → block_after x (place + 1) block ≡ place + 1) k told.own) in
       read.block ∙ ap (λ x. block_after x (place + 1) block) k ∙ own ∙ sym read.line
-    where
-      not-inert : (b : Bool) → not b ≡ true → b ≡ false
-      not-inert true is = absurd (true≢false (sym is))
-      not-inert false is = refl

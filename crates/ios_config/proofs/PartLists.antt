@@ -1,7 +1,7 @@
 -- Each part of a file once, and its commands, with one more command.
 use Rattle.std.proofs.Common.{◌≡◌, suc, ◌+◌, ◌||◌, not, Bool, true, false, cond, List, [], ◌∷◌, ◌++◌, map, get_or, set, filter, refl, sym, ◌∙◌, ap, arith, Decides, if◌then◌else◌, eq-eqb, eqb-true}
 use Rattle.std.specs.List.{list_any, position_or_len}
-use Rattle.std.proofs.lemmas.Bool.{false≢true}
+use Rattle.std.proofs.lemmas.Bool.{false≢true, or_parts}
 use Rattle.std.proofs.lemmas.Slice.Eq.{bytes_eq-Decides}
 use Rattle.std.proofs.lemmas.List.{append-nil, map-append}
 use Rattle.std.proofs.lemmas.List.Elements.{filter-append}
@@ -20,9 +20,6 @@ is_same-Decides (PrefixLines a) (Block b) = (λ t. absurd (false≢true t), λ e
 is_same-Decides (PrefixLines a) (Lines b) = (λ t. absurd (false≢true t), λ e. cc)
 is_same-Decides (PrefixLines a) (PrefixLines b) = (λ t. ap PrefixLines ((bytes_eq-Decides a b).0 t), λ e. let k : a ≡ b = cc in (bytes_eq-Decides a b).1 k)
 
-same_self : (p : Part) → is_same p p ≡ true
-same_self p = (is_same-Decides p p).1 refl
-
 -- it does not matter which part comes first
 apart : (p q : Part) → is_same p q ≡ false → is_same q p ≡ false
 apart p q e = by (is_same q p) refl
@@ -30,10 +27,6 @@ apart p q e = by (is_same q p) refl
     by : (b : Bool) → is_same q p ≡ b → is_same q p ≡ false
     by false h = h
     by true h = absurd (false≢true (sym e ∙ (is_same-Decides p q).1 (sym ((is_same-Decides q p).0 h))))
-
-pub neither : (a b : Bool) → (a || b) ≡ false → (a ≡ false) × (b ≡ false)
-neither true b e = absurd (false≢true (sym e))
-neither false b e = (refl, e)
 
 -- the parts other than one
 abbrev pub others : Part → List Part → List Part
@@ -79,14 +72,14 @@ Fresh (p ∷ ps) = (list_any (is_same p) ps ≡ false) × Fresh ps
 
 kept_lacks : (x p : Part) (ps : List Part) → list_any (is_same p) ps ≡ false → list_any (is_same p) (others x ps) ≡ false
 kept_lacks x p [] e = refl
-kept_lacks x p (q ∷ ps) e = by (is_same x q) (kept_lacks x p ps) (neither (is_same p q) (list_any (is_same p) ps) e)
+kept_lacks x p (q ∷ ps) e = by (is_same x q) (kept_lacks x p ps) (or_parts (is_same p q) (list_any (is_same p) ps) e)
   where
     by : (b : Bool) → (list_any (is_same p) ps ≡ false → list_any (is_same p) (others x ps) ≡ false) →
         (is_same p q ≡ false) × (list_any (is_same p) ps ≡ false) → list_any (is_same p) (cond (not b) (q ∷ others x ps) (others x ps)) ≡ false
     by true ih h = ih h.1
     by false ih h = ap (λ c. c || list_any (is_same p) (others x ps)) h.0 ∙ ih h.1
 
-others_lack : (x : Part) (ps : List Part) → list_any (is_same x) (others x ps) ≡ false
+pub others_lack : (x : Part) (ps : List Part) → list_any (is_same x) (others x ps) ≡ false
 others_lack x [] = refl
 others_lack x (q ∷ ps) = by (is_same x q) refl (others_lack x ps)
   where
@@ -116,10 +109,10 @@ any_distinct p (x ∷ ps) = by (is_same p x) refl (any_distinct p ps)
     by false e ih = any_others x p e (distinct ps) ∙ ih
 
 -- no command is a member of a part that none names
-none_named : (p : Part) (cs : List FileCommand) → list_any (is_same p) (map part_of cs) ≡ false → members cs p ≡ []
+pub none_named : (p : Part) (cs : List FileCommand) → list_any (is_same p) (map part_of cs) ≡ false → members cs p ≡ []
 none_named p [] e = refl
 none_named p (c ∷ cs) e =
-    let both = neither (is_same p (part_of c)) (list_any (is_same p) (map part_of cs)) e in
+    let both = or_parts (is_same p (part_of c)) (list_any (is_same p) (map part_of cs)) e in
     ap (λ b. cond b (c ∷ members cs p) (members cs p)) both.0 ∙ none_named p cs both.1
 
 module _ (cs : List FileCommand) (c : FileCommand) where
@@ -136,7 +129,7 @@ module _ (cs : List FileCommand) (c : FileCommand) where
   all_stay : (ps : List Part) → list_any (is_same (part_of c)) ps ≡ false → map (members (cs ++ c ∷ [])) ps ≡ map (members cs) ps
   all_stay [] e = refl
   all_stay (p ∷ ps) e =
-      let both = neither (is_same (part_of c) p) (list_any (is_same (part_of c)) ps) e in
+      let both = or_parts (is_same (part_of c) p) (list_any (is_same (part_of c)) ps) e in
       let first = members_stay p (apart (part_of c) p both.0) in
       let rest = all_stay ps both.1 in
       λ i. first i ∷ rest i
@@ -173,7 +166,7 @@ module _ (cs : List FileCommand) (c : FileCommand) where
       let parts : distinct (map part_of (cs ++ c ∷ [])) ≡ D ++ part_of c ∷ [] =
       ap distinct (map-append part_of cs (c ∷ [])) ∙ distinct_more (map part_of cs) (part_of c) ∙ ap (λ b. if b then D else D ++ part_of c ∷ []) e in
       let alone : members (cs ++ c ∷ []) (part_of c) ≡ c ∷ [] =
-      members_gain (part_of c) (same_self (part_of c)) ∙ ap (λ l. l ++ c ∷ []) (none_named (part_of c) cs (sym (any_distinct (part_of c) (map part_of cs)) ∙ e)) in
+      members_gain (part_of c) ((is_same-Decides (part_of c) (part_of c)).1 refl) ∙ ap (λ l. l ++ c ∷ []) (none_named (part_of c) cs (sym (any_distinct (part_of c) (map part_of cs)) ∙ e)) in
       ap (map (members (cs ++ c ∷ []))) parts ∙ map-append (members (cs ++ c ∷ [])) D (part_of c ∷ []) ∙
       (λ i. all_stay D e i ++ alone i ∷ [])
 

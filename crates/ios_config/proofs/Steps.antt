@@ -3,6 +3,7 @@ use Rattle.std.proofs.Common.{◌≡◌, ℕ, ◌+◌, ◌<◌, List, [], ◌∷
 use Rattle.std.specs.Prelude.{slice_get, Err}
 use Rattle.std.specs.List.{AllZip}
 use Rattle.std.proofs.lemmas.Option.{slice_get-get_or, slice_get_within, get_or_from_slice_get}
+use Rattle.arc_base.proofs.Zips.{AllZip-append}
 use Rattle.ios_lines.specs.declared.line.Lines.{Lines}
 use Rattle.ios_lines.specs.declared.line.Line.{Line}
 use Rattle.ios_lines.specs.Lines.{AreLinesOf, IsRow}
@@ -14,7 +15,7 @@ use Rattle.ios_config.specs.declared.commands.FileCommand.{FileCommand}
 use Rattle.ios_config.specs.Commands.{IsReadAs, IsFaultOfFile}
 use Rattle.ios_config.specs.Reading.{standing, open_after, IsCommandAt, IsReading}
 use Rattle.ios_config.proofs.Opened.{lines_to, KnowsOpen, stands_within, knows_more, knows_same, is_read}
-use Rattle.ios_config.proofs.Numbered.{AllZip-more, lines_more, lines_same, lines_after, lines_split}
+use Rattle.ios_config.proofs.Numbered.{lines_more, lines_same, lines_after, lines_split}
 
 -- the line that a loop over the lines is at
 pub at_place : (lines : Lines) (items : List Line) (n : ℕ) (r : Line) → items ≡ lines.rows → n < length items → r ≡ get_or items n r → slice_get lines.rows n ≡ Some r
@@ -40,7 +41,7 @@ module _ (text : List ℕ) (lines : Lines) (n : ℕ) (r : Line) (are : AreLinesO
       ReadsTo text lines (n + 1) (commands ++ c ∷ []) (open_after r c.command current)
   reads_more c filled is = record {
     read = subst (λ l. AllZip (IsReadAs text lines) l (commands ++ c ∷ [])) (sym (lines_more lines n r at filled))
-        (AllZip-more (IsReadAs text lines) (lines_to n lines) commands (n + 1, r) c before.read (is_read text lines n r row current before.known at c is));
+        (AllZip-append (IsReadAs text lines) (lines_to n lines) commands ((n + 1, r) ∷ []) (c ∷ []) before.read (is_read text lines n r row current before.known at c is, tt));
     known = knows_more text lines n r row current before.known at c.command filled is.reads;
   }
 

@@ -1,10 +1,11 @@
 -- The lines of a text are read in one way.
-use Rattle.std.proofs.Common.{◌≡◌, ℕ, ◌+◌, ◌<◌, Bool, true, false, List, [], ◌∷◌, length, get_or, Some, refl, sym, ◌∙◌, ap, subst, arith, MatchBool}
+use Rattle.std.proofs.Common.{◌≡◌, ℕ, ◌+◌, ◌<◌, Bool, true, false, List, [], ◌∷◌, length, get_or, refl, sym, ◌∙◌, ap, subst, arith, MatchBool}
 use Rattle.std.specs.Prelude.{Contains}
 use Rattle.std.specs.Result.{result_ok}
 use Rattle.std.specs.List.{AllZip}
 use Rattle.std.proofs.lemmas.List.{get_or_default}
 use Rattle.std.proofs.lemmas.List.FromFn.{length-enumerate_from, get_or-enumerate_from}
+use Rattle.std.proofs.lemmas.Option.{same_Some}
 use Rattle.ios_lines.specs.declared.line.Lines.{Lines}
 use Rattle.ios_lines.specs.declared.line.Line.{Line}
 use Rattle.ios_words.specs.declared.kinds.BlockKind.{BlockKind}
@@ -19,15 +20,12 @@ use Rattle.ios_config.specs.Commands.{numbered, command_lines, is_top, opened_by
 use Rattle.ios_config.specs.Texts.{config_of}
 use Rattle.ios_config.specs.Configs.{IsConfigOf}
 
-some_one : {X : Type 0} (x y : X) → Some x ≡ Some y → x ≡ y
-some_one x y e = cc
-
 -- a line is read as one command
 pub reads_one : (text : List ℕ) (line : Line) (within : BlockKind) (c d : Command) → ReadsAs text line within c → ReadsAs text line within d → c ≡ d
 reads_one text line within c d a b =
-    let rule : a.rule ≡ b.rule = some_one a.rule b.rule (sym a.first ∙ b.first) in
+    let rule : a.rule ≡ b.rule = same_Some a.rule b.rule (sym a.first ∙ b.first) in
     let values : a.values ≡ b.values =
-    some_one a.values b.values (ap result_ok (sym a.complete ∙ ap (read (is_extended_block within) (line_words text line)) rule ∙ b.complete)) in
+    same_Some a.values b.values (ap result_ok (sym a.complete ∙ ap (read (is_extended_block within) (line_words text line)) rule ∙ b.complete)) in
     a.gives ∙ (λ i. give (rule i).meaning (values i)) ∙ sym b.gives
 
 -- a number with a line

@@ -155,10 +155,6 @@ module _ (doc : Document) (configs : List Config) (net : Network) (base : AreBas
     first_unknown items r same first =
         first_same kinds.NeighborUnknown (Reached ends) Unknown configs to from r (subst (λ (cs : List Config). IsEarliest (InFiles kinds.NeighborUnknown (Reached ends) cs) r) same first)
 
-    pub none_unknown : (items : List Config) → items ≡ configs → NoRefusal (InFiles kinds.NeighborUnknown (Reached ends) items) → NoRefusal (RefusesNeighbor doc configs)
-    none_unknown items same clear =
-        clear_same kinds.NeighborUnknown (Reached ends) Unknown configs to from (subst (λ (cs : List Config). NoRefusal (InFiles kinds.NeighborUnknown (Reached ends) cs)) same clear)
-
     pub tried_known : (result : Result (Unit {0}) NetFault) → TriedAlone (InFiles kinds.NeighborUnknown (Reached ends) configs) result → TriedAlone (RefusesNeighbor doc configs) result
     tried_known (Ok done) tried = (clear_same kinds.NeighborUnknown (Reached ends) Unknown configs to from tried.0, tt)
     tried_known (Err (Refused r)) tried = first_same kinds.NeighborUnknown (Reached ends) Unknown configs to from r tried

@@ -1,8 +1,7 @@
 -- Which services of two addresses a list permits, run by run.
-use Rattle.std.proofs.Common.{◌≡◌, ℕ, ◌+◌, ◌<◌, ◌≤◌, inl, inr, zero, suc, List, ◌∷◌, length, get_or, drop, refl, sym, ap, subst, ◌∙◌, arith, Bool, true, false, IsFalse, Some, cond}
+use Rattle.std.proofs.Common.{◌≡◌, ℕ, ◌+◌, ◌<◌, inl, inr, zero, suc, List, ◌∷◌, length, get_or, drop, refl, sym, ap, subst, ◌∙◌, arith, Bool, true, false, IsFalse, Some, cond}
 use Rattle.std.specs.Prelude.{Any, Contains, find}
 use Rattle.std.specs.Option.{option_map_or}
-use Rattle.std.proofs.lemmas.Bool.{and_parts, and_from, leb-true, le-leb}
 use Rattle.std.proofs.lemmas.List.{at_drop_more}
 use Rattle.net_model.specs.declared.lists.Packet.{Packet}
 use Rattle.net_model.specs.declared.lists.PacketEntry.{PacketEntry}
@@ -11,6 +10,7 @@ use Rattle.net_model.specs.declared.rows.Protocol.TheVariants.{Ospf, Bgp}
 use Rattle.net_model.specs.declared.services.Service.{Service}
 use Rattle.net_model.specs.Lists.{matches, permits}
 use Rattle.net_model.specs.Services.{Serves}
+use Rattle.net_model.proofs.ServiceRanges.{bounds, serve}
 use Rattle.net_rules.specs.Stops.{targets, ospf_services, bgp_service, opener_services, session_services, IsNeeded, Denies}
 use Rattle.net_checks.specs.SessionPackets.{DeniesBetween, DeniesAt}
 
@@ -22,12 +22,6 @@ first_permits e es p false is = ap (λ (b : Bool). option_map_or (λ (x : Packet
 module _ (entries : List PacketEntry) (i : ℕ) (d : PacketEntry) (within : i < length entries) (p : Packet) where
   pub at_entry : (b : Bool) → matches p (get_or entries i d) ≡ b → permits (drop i entries) p ≡ cond b (get_or entries i d).permit (permits (drop (i + 1) entries) p)
   at_entry b is = at_drop_more (λ es. permits es p) entries i d within ∙ first_permits (get_or entries i d) (drop (i + 1) entries) p b is
-
-bounds : (range : Service) (service : ℕ) → Serves range service → (range.low ≤ service) × (service ≤ range.high)
-bounds range service h = let both = and_parts _ _ h in (leb-true _ _ both.0, leb-true _ _ both.1)
-
-serve : (range : Service) (service : ℕ) → range.low ≤ service → service ≤ range.high → Serves range service
-serve range service low high = and_from _ _ (le-leb _ _ low) (le-leb _ _ high)
 
 -- what the protocol needs is denied at one of its targets, and what is denied there is needed
 module _ (entries : List PacketEntry) (from own : ℕ) where

@@ -6,6 +6,7 @@ use Rattle.std.proofs.lemmas.List.{map-id, append-nil}
 use Rattle.std.proofs.lemmas.List.Concat.{flat_map-append}
 use Rattle.std.proofs.lemmas.List.Elements.{filter-append}
 use Rattle.std.proofs.lemmas.List.FromFn.{map-range_with_len_more}
+use Rattle.arc_base.proofs.Zips.{AllZip-append}
 use Rattle.net_gen.specs.Plans.{numbers, link_count, has_end}
 use Rattle.net_model.specs.declared.policies.Policy.{Policy}
 use Rattle.net_gen.specs.Generated.{Asked, Asks}
@@ -52,13 +53,6 @@ pub text_left : (n router link : ℕ) → has_end n router (link + 1) ≡ false 
     text_of (links_lines n router (numbers (link + 1))) ≡ text_of (links_lines n router (numbers link))
 text_left n router link e = ap (λ (ls : List ℕ). text_of (flat_map (link_lines n router) ls)) (left_more (has_end n router) link e)
 
--- two lists of pairs that are related, one after another
-pub AllZip-append : {X Y : Type 0} (R : X → Y → Type 0) (xs ws : List X) (ys zs : List Y) → AllZip R xs ys → AllZip R ws zs → AllZip R (xs ++ ws) (ys ++ zs)
-AllZip-append R [] ws [] zs h k = k
-AllZip-append R [] ws (y ∷ ys) zs h k = absurd h
-AllZip-append R (x ∷ xs) ws [] zs h k = absurd h
-AllZip-append R (x ∷ xs) ws (y ∷ ys) zs h k = (h.0, AllZip-append R xs ws ys zs h.1 k)
-
 -- what a loop that goes from 1 on has pushed, one number more
 pub pushed_more : {X : Type 0} (f : ℕ → X) (n : ℕ) (items now : List X) (x : X) → now ≡ items ++ x ∷ [] → items ≡ map f (numbers n) → x ≡ f (n + 1) → now ≡ map f (numbers (n + 1))
 pushed_more f n items now x pushed before one =
@@ -72,7 +66,7 @@ pub asked_more : (asks : ℕ → Asked) (n : ℕ) (items now : List Policy) (p :
 asked_more asks n items now p pushed before one =
     subst (λ (ps : List Policy). AllZip Asks (map asks (numbers (n + 1))) ps) (sym pushed)
     (subst (λ (qs : List Asked). AllZip Asks qs (items ++ p ∷ [])) (sym (map_more asks n))
-    (AllZip-append Asks (map asks (numbers n)) (asks (n + 1) ∷ []) items (p ∷ []) before (one, tt)))
+    (AllZip-append Asks (map asks (numbers n)) items (asks (n + 1) ∷ []) (p ∷ []) before (one, tt)))
 
 -- four parts of a text, one after another
 pub four_parts : (first second third fourth a b c d : List ℕ) → first ≡ a → second ≡ first ++ b → third ≡ second ++ c → fourth ≡ third ++ d → fourth ≡ a ++ (b ++ (c ++ d))

@@ -30,10 +30,10 @@ port_at_most : (n router link : ℕ) → port n router link ≤ link
 port_at_most n router link = omega (arith, filtered_at_most (has_end n router) (numbers link), length-range_with_len 1 link)
 
 -- a number below 1,000 has at most three digits
-three_digits : (n : ℕ) → n < 1000 → length (decimal n) ≤ 3
+pub three_digits : (n : ℕ) → n < 1000 → length (decimal n) ≤ 3
 three_digits n few = length-decimal-le 3 n (omega arith) (omega (arith, few)) (omega (arith, few))
 
-end_small : (link : ℕ) → link < 256 → (b : Bool) → address 0 link (if b then 1 else 2) < 2 ^ 32
+pub end_small : (link : ℕ) → link < 256 → (b : Bool) → address 0 link (if b then 1 else 2) < 2 ^ 32
 end_small link few true = omega (arith, few)
 end_small link few false = omega (arith, few)
 

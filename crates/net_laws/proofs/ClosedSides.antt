@@ -16,10 +16,10 @@ use Rattle.net_model.specs.Witnesses.{IsOn, MayBreak, IsClosed, IsRightSide, IsR
 use Rattle.net_laws.specs.Laws.{ClosedSidesBlock, ClosedSidesForceThrough}
 use Rattle.net_laws.proofs.Cover.{covered}
 
-Any-here : {X : Type 0} (P : X → Type 0) (x : X) (xs : List X) → P x → Any P (x ∷ xs)
+pub Any-here : {X : Type 0} (P : X → Type 0) (x : X) (xs : List X) → P x → Any P (x ∷ xs)
 Any-here P x xs h = (0, x, omega arith, refl, h)
 
-Any-there : {X : Type 0} (P : X → Type 0) (x : X) (xs : List X) → Any P xs → Any P (x ∷ xs)
+pub Any-there : {X : Type 0} (P : X → Type 0) (x : X) (xs : List X) → Any P xs → Any P (x ∷ xs)
 Any-there P x xs h = (suc h.0, h.1, omega (arith, h.2), h.3, h.4)
 
 -- each arc may be used by a walk that breaks the policy, or some arc is over a waypoint link
@@ -60,7 +60,7 @@ module _ (net : Network) (ends : Ends) (kind : PolicyKind) (class : Class) (side
       closed.target on_target p of delivered.leaves
 
 -- the side of the packet's class
-side_of : (net : Network) (ends : Ends) (kind : PolicyKind) (whole : Class) (sides : List ClassSide) → IsRightClosed net ends kind whole sides →
+pub side_of : (net : Network) (ends : Ends) (kind : PolicyKind) (whole : Class) (sides : List ClassSide) → IsRightClosed net ends kind whole sides →
     (p : Packet) → IsOfClass whole p → (c : ClassSide) × IsRightSide net ends kind whole c × IsOfClass c.class p
 side_of net ends kind whole sides shown p of =
     covered whole sides (IsRightSide net ends kind whole) shown.disjoint (λ k d l. (shown.right k d l).part) shown.right shown.all p of

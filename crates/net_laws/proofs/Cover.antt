@@ -5,9 +5,11 @@ use Rattle.std.proofs.Math.Nat.{div-lt_iff_lt-mul}
 use Rattle.std.proofs.Math.Pow.{pow_pos}
 use Rattle.std.proofs.lemmas.Nat.{pow-add}
 use Rattle.std.proofs.lemmas.List.Sums.{sum_by-cons}
-use Rattle.std.proofs.lemmas.Bool.{eqb-true}
+use Rattle.std.proofs.lemmas.Bool.{eqb-true, cases_Bool}
+use Rattle.std.proofs.lemmas.List.Elements.{All-head, All-tail}
 use Rattle.arc_base.specs.Addresses.{holds, Holds, size, first_bits}
 use Rattle.arc_base.specs.declared.prefix.Prefix.{Prefix}
+use Rattle.arc_base.proofs.Items.{AllPairs-rest}
 use Rattle.net_model.specs.declared.lists.Packet.{Packet}
 use Rattle.net_model.specs.declared.policies.Class.{Class}
 use Rattle.net_model.specs.declared.verdicts.ClassSide.{ClassSide}
@@ -16,7 +18,7 @@ use Rattle.net_model.specs.Services.{serves, Serves, services}
 use Rattle.net_model.specs.Packets.{IsOfClass, LiesIn, ShareNoPacket, packets}
 use Rattle.net_model.proofs.ServiceRanges.{bounds}
 use Rattle.net_laws.proofs.Counting.{total, ind, addresses}
-use Rattle.net_laws.proofs.Triples.{true_or_false, triples, triples-none, triples-sum, triples-product, triples-tight, counted_services}
+use Rattle.net_laws.proofs.Triples.{triples, triples-none, triples-sum, triples-product, triples-tight, counted_services}
 
 -- whether the class has the packet from a to b of the service s, as a number
 abbrev pub count_in : Class → ℕ → ℕ → ℕ → ℕ
@@ -25,9 +27,9 @@ count_in c a b s = ind (holds c.from a) * ind (holds c.to b) * ind (serves c.ser
 -- the class has the packet, or counts it as 0
 in_or_zero : (c : Class) (p : Packet) → IsOfClass c p ⊎ (count_in c p.from p.to p.service ≡ 0)
 in_or_zero c p =
-    elim (true_or_false (holds c.from p.from)) [
-      | inl from ↦ elim (true_or_false (holds c.to p.to)) [
-        | inl to ↦ elim (true_or_false (serves c.service p.service)) [
+    elim (cases_Bool (holds c.from p.from)) [
+      | inl from ↦ elim (cases_Bool (holds c.to p.to)) [
+        | inl to ↦ elim (cases_Bool (serves c.service p.service)) [
           | inl served ↦ inl (from, to, served)
           | inr off ↦
               let z : ind (serves c.service p.service) ≡ 0 = ap ind off in
@@ -81,22 +83,13 @@ Apart c d = ShareNoPacket c.class d.class
 pub AllPairs-first : {X : Type 0} (R : X → X → Type 0) (x : X) (xs : List X) → AllPairs R (x ∷ xs) → All (R x) xs
 AllPairs-first R x xs h = λ k d l. h 0 (suc k) d (omega arith) (omega arith)
 
-pub AllPairs-rest : {X : Type 0} (R : X → X → Type 0) (x : X) (xs : List X) → AllPairs R (x ∷ xs) → AllPairs R xs
-AllPairs-rest R x xs h = λ i j d l m. h (suc i) (suc j) d (omega arith) (omega arith)
-
-pub All-first : {X : Type 0} (P : X → Type 0) (x : X) (xs : List X) → All P (x ∷ xs) → P x
-All-first P x xs h = h 0 x (omega arith)
-
-pub All-rest : {X : Type 0} (P : X → Type 0) (x : X) (xs : List X) → All P (x ∷ xs) → All P xs
-All-rest P x xs h = λ k d l. h (suc k) d (omega arith)
-
 -- where one class has the packet, those apart from it do not
 none_else : (c : ClassSide) (cs : List ClassSide) → All (Apart c) cs → (p : Packet) → IsOfClass c.class p → count_all cs p.from p.to p.service ≡ 0
 none_else c [] apart p of = refl
 none_else c (d ∷ cs) apart p of =
-    let rest : count_all cs p.from p.to p.service ≡ 0 = none_else c cs (All-rest (Apart c) d cs apart) p of in
+    let rest : count_all cs p.from p.to p.service ≡ 0 = none_else c cs (All-tail (Apart c) d cs apart) p of in
     elim (in_or_zero d.class p) [
-      | inl other ↦ absurd (All-first (Apart c) d cs apart p of other)
+      | inl other ↦ absurd (All-head (Apart c) d cs apart p of other)
       | inr off ↦ omega (arith, off, rest)
     ]
 
@@ -106,10 +99,10 @@ no_more_than_whole : (whole : Class) (cs : List ClassSide) → AllPairs Apart cs
 no_more_than_whole whole [] apart part p = omega arith
 no_more_than_whole whole (c ∷ cs) apart part p =
     let rest : count_all cs p.from p.to p.service ≤ count_in whole p.from p.to p.service =
-    no_more_than_whole whole cs (AllPairs-rest Apart c cs apart) (All-rest (λ (x : ClassSide). LiesIn x.class whole) c cs part) p in
+    no_more_than_whole whole cs (AllPairs-rest Apart c cs apart) (All-tail (λ (x : ClassSide). LiesIn x.class whole) c cs part) p in
     elim (in_or_zero c.class p) [
       | inl of ↦
-          let lies : LiesIn c.class whole = All-first (λ (x : ClassSide). LiesIn x.class whole) c cs part in
+          let lies : LiesIn c.class whole = All-head (λ (x : ClassSide). LiesIn x.class whole) c cs part in
           let one : count_in c.class p.from p.to p.service ≡ 1 = in_is_one c.class p of in
           let top : count_in whole p.from p.to p.service ≡ 1 = in_is_one whole p (lies.0 p.from of.0, lies.1 p.to of.1, lies.2 p.service of.2) in
           let none : count_all cs p.from p.to p.service ≡ 0 = none_else c cs (AllPairs-first Apart c cs apart) p of in
@@ -132,7 +125,7 @@ Holds-below p a h =
     subst (λ (x : ℕ). a < x) (sym split) within
 
 -- a service of a range is below 2 ^ 24
-Serves-below : (s : Service) (n : ℕ) → Serves s n → n < 2 ^ 24
+pub Serves-below : (s : Service) (n : ℕ) → Serves s n → n < 2 ^ 24
 Serves-below s n h = let top : s.high < 2 ^ 24 = s.in_range in omega (arith, top, (bounds s n h).1)
 
 -- a class that is counted has the packet
@@ -140,8 +133,8 @@ found : (Q : ClassSide → Type 0) (cs : List ClassSide) → All Q cs → (p : P
 found Q [] all p some = absurd (omega arith)
 found Q (c ∷ cs) all p some =
     elim (in_or_zero c.class p) [
-      | inl of ↦ (c, All-first Q c cs all, of)
-      | inr off ↦ found Q cs (All-rest Q c cs all) p (omega (arith, off, some))
+      | inl of ↦ (c, All-head Q c cs all, of)
+      | inr off ↦ found Q cs (All-tail Q c cs all) p (omega (arith, off, some))
     ]
 
 module _ (n m : ℕ) (addresses_all : n ≡ 2 ^ 32) (services_all : m ≡ 2 ^ 24) (whole : Class) (cs : List ClassSide) (apart : AllPairs Apart cs)

@@ -2,7 +2,7 @@
 use Rattle.std.proofs.Common.{◌≡◌, ℕ, zero, suc, ◌<◌, ◌⊎◌, inl, inr, Bool, true, false, Option, Some, None, List, [], ◌∷◌, length, ap, refl, sym, ◌∙◌, subst, arith}
 use Rattle.std.specs.Prelude.{◌↔◌, IsTrue, IsFalse, IfSome, IsSomeAnd, Any, is_some, slice_get}
 use Rattle.std.specs.List.{AllByRecursion}
-use Rattle.std.proofs.lemmas.Bool.{false≢true, cases_lt}
+use Rattle.std.proofs.lemmas.Bool.{false≢true, cases_lt, cases_Bool}
 use Rattle.std.proofs.lemmas.Option.{slice_get_within}
 use Rattle.arc_base.specs.declared.prefix.Prefix.{Prefix}
 use Rattle.arc_base.specs.declared.place.Face.{Face}
@@ -20,7 +20,6 @@ use Rattle.net_model.specs.Forwarding.{Ends, Leaves, ListPermits}
 use Rattle.net_model.specs.Routing.{Arc, IsArc, IsRouted, IsUsable, Advertises, IsAbleEnd, IsOpen, RouteListPermits, FilterPermits, Carries, session_at, tail_face, head_face, tail_end, head_end}
 use Rattle.net_model.proofs.Arcs.{one_item, IsArc-unique}
 use Rattle.net_model.proofs.Decided.{able_right, open_right, told_right}
-use Rattle.net_laws.proofs.Triples.{true_or_false}
 
 -- it holds, or it does not
 abbrev pub Decided : Type 0 → Type 0
@@ -164,7 +163,7 @@ module _ (net : Network) (to : Prefix) (failed : ℕ → Bool) where
             elim (cases_lt b.link k) [
               | inl below ↦ two.kept b (one.kept b (rest.complete b u below))
               | inr at ↦ let link : b.link ≡ k = omega arith in
-                  elim (true_or_false b.from_a) [
+                  elim (cases_Bool b.from_a) [
                     | inl t ↦ two.kept b (one.added b u link t)
                     | inr f ↦ two.added b u link f
                   ]
@@ -183,7 +182,7 @@ module _ (net : Network) (to : Prefix) (failed : ℕ → Bool) where
       record { arcs = all.arcs; usable = all.usable; complete = λ b u. all.complete b u (slice_get_within net.links b.link b.row u.is_arc.link) }
 
 -- whether a packet leaves can be decided
-permitted : (net : Network) (list : Option ListId) (p : Packet) → Decided (ListPermits net list p)
+pub permitted : (net : Network) (list : Option ListId) (p : Packet) → Decided (ListPermits net list p)
 permitted net list p =
     let P : PacketList → Type 0 = λ l. IsTrue (permits l.entries p) in
     if_some (λ (id : ListId). IsSomeAnd (slice_get net.packet_lists id.0) P)

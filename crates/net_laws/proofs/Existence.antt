@@ -11,12 +11,9 @@ use Rattle.net_model.specs.Validity.{IsValid}
 use Rattle.net_laws.proofs.Counting.{total, total-tight, ind}
 use Rattle.net_laws.proofs.Decisions.{In, UsableArcs, usable_arcs}
 use Rattle.net_laws.proofs.RightPaths.{tail_in}
+use Rattle.net_laws.proofs.StableMaps.{value_of}
 
-value_of : (o : Option ℕ) → (o ≡ None) ⊎ ((n : ℕ) × (o ≡ Some n))
-value_of None = inl refl
-value_of (Some n) = inr (n, refl)
-
-apart : (o : Option ℕ) (n : ℕ) → o ≡ None → o ≡ Some n → ⊥
+pub apart : (o : Option ℕ) (n : ℕ) → o ≡ None → o ≡ Some n → ⊥
 apart o n e q = false≢true (ap is_some (sym e ∙ q))
 
 one_value : (o : Option ℕ) (m n : ℕ) → o ≡ Some m → o ≡ Some n → m ≡ n

@@ -2,20 +2,22 @@
 use Rattle.std.proofs.Common.{◌≡◌, ℕ, zero, suc, ◌+◌, ◌*◌, ◌<◌, ◌≤◌, ◌≢◌, ◌⊎◌, inl, inr, Bool, true, false, List, [], ◌∷◌, ◌++◌, length, ap, refl, sym, ◌∙◌, subst, arith}
 use Rattle.std.specs.Prelude.{All, AllPairs, IsFalse, ◌==◌, count_by, cond}
 use Rattle.std.specs.List.{AllByRecursion, flat_map, range_with_len}
-use Rattle.std.proofs.lemmas.Bool.{cases_lt, eq-eqb, ne_eqb}
+use Rattle.std.proofs.lemmas.Bool.{cases_lt, eq-eqb, ne_eqb, cases_Bool}
 use Rattle.std.proofs.lemmas.Bool.Decides.{eqb_tells}
 use Rattle.std.proofs.lemmas.Option.{slice_get_within}
 use Rattle.std.proofs.lemmas.List.Sums.{sum_by-cons}
+use Rattle.std.proofs.lemmas.List.Elements.{All-head, All-tail}
 use Rattle.arc_base.specs.declared.place.Link.{Link}
 use Rattle.arc_base.specs.declared.prefix.Prefix.{Prefix}
+use Rattle.arc_base.proofs.Items.{AllPairs-rest}
+use Rattle.arc_base.proofs.Zips.{AllByRecursion-append}
 use Rattle.net_model.specs.declared.verdicts.LinkPath.{LinkPath}
 use Rattle.net_model.specs.declared.rows.Network.{Network}
 use Rattle.net_model.specs.Routing.{Arc, head_router}
 use Rattle.net_model.specs.Forwarding.{Ends, failures}
 use Rattle.net_model.specs.Witnesses.{Path, IsPath, links_of}
 use Rattle.net_laws.proofs.Counting.{total, total-add, total-cong, total-const, total-mono, total-sum, ind}
-use Rattle.net_laws.proofs.Triples.{true_or_false}
-use Rattle.net_laws.proofs.Cover.{AllPairs-first, AllPairs-rest, All-first, All-rest}
+use Rattle.net_laws.proofs.Cover.{AllPairs-first}
 
 -- how many of the links have failed
 abbrev pub hits : (ℕ → Bool) → List Link → ℕ
@@ -35,8 +37,8 @@ never : (l : Link) (ls : List Link) → All (λ m. l ≢ m) ls → times ls l.0 
 never l [] all = refl
 never l (m ∷ ls) all =
     let D : Link → Type 0 = λ x. l ≢ x in
-    let rest : times ls l.0 ≡ 0 = never l ls (All-rest D m ls all) in
-    let off : ind (m.0 == l.0) ≡ 0 = ap ind (ne_eqb m.0 l.0 (λ e. All-first D m ls all (ap (λ (k : ℕ). record { 0 = k }) (sym e)))) in
+    let rest : times ls l.0 ≡ 0 = never l ls (All-tail D m ls all) in
+    let off : ind (m.0 == l.0) ≡ 0 = ap ind (ne_eqb m.0 l.0 (λ e. All-head D m ls all (ap (λ (k : ℕ). record { 0 = k }) (sym e)))) in
     omega (arith, rest, off)
 
 at_most_once : (ls : List Link) → AllPairs (λ l m. l ≢ m) ls → (link : ℕ) → times ls link ≤ 1
@@ -122,7 +124,7 @@ Alive failed arcs = AllByRecursion (λ arc. IsFalse (failed arc.link)) arcs
 alive_or_hit : (failed : ℕ → Bool) (arcs : List Arc) → Alive failed arcs ⊎ (1 ≤ hits failed (links_of arcs))
 alive_or_hit failed [] = inl tt
 alive_or_hit failed (arc ∷ arcs) =
-    elim (true_or_false (failed arc.link)) [
+    elim (cases_Bool (failed arc.link)) [
       | inl down ↦ inr (let one : ind (failed arc.link) ≡ 1 = ap ind down in omega (arith, one))
       | inr up ↦ elim (alive_or_hit failed arcs) [
         | inl alive ↦ inl (up, alive)
@@ -135,19 +137,15 @@ within_net net to t u [] path = tt
 within_net net to t u (arc ∷ arcs) path =
     (slice_get_within net.links arc.link arc.row path.0.link, within_net net to t (head_router arc) arcs path.3)
 
-AllByRecursion-append : {X : Type 0} (P : X → Type 0) (xs ys : List X) → AllByRecursion P xs → AllByRecursion P ys → AllByRecursion P (xs ++ ys)
-AllByRecursion-append P [] ys p q = q
-AllByRecursion-append P (x ∷ xs) ys p q = (p.0, AllByRecursion-append P xs ys p.1 q)
-
 all_within : (net : Network) (ends : Ends) (paths : List LinkPath) → All (IsPath net ends) paths →
     AllByRecursion (λ l. l.0 < length net.links) (flat_map (λ p. p.links) paths)
 all_within net ends [] all = tt
 all_within net ends (path ∷ paths) all =
-    let shown : IsPath net ends path = All-first (IsPath net ends) path paths all in
+    let shown : IsPath net ends path = All-head (IsPath net ends) path paths all in
     let In : Link → Type 0 = λ l. l.0 < length net.links in
     AllByRecursion-append In path.links (flat_map (λ (p : LinkPath). p.links) paths)
     (subst (AllByRecursion In) shown.links (within_net net ends.to _ _ shown.arcs shown.leads))
-    (all_within net ends paths (All-rest (IsPath net ends) path paths all))
+    (all_within net ends paths (All-tail (IsPath net ends) path paths all))
 
 -- a path of which no link has failed
 pub record Survivor (net : Network) (ends : Ends) (failed : ℕ → Bool) : Type 0 where
@@ -159,10 +157,10 @@ survivor_or_hits : (net : Network) (ends : Ends) (failed : ℕ → Bool) (paths 
     Survivor net ends failed ⊎ (length paths ≤ hits failed (flat_map (λ p. p.links) paths))
 survivor_or_hits net ends failed [] all = inr (omega arith)
 survivor_or_hits net ends failed (path ∷ paths) all =
-    let shown : IsPath net ends path = All-first (IsPath net ends) path paths all in
+    let shown : IsPath net ends path = All-head (IsPath net ends) path paths all in
     elim (alive_or_hit failed shown.arcs) [
       | inl alive ↦ inl (record { path = path; shown = shown; alive = alive })
-      | inr hit ↦ elim (survivor_or_hits net ends failed paths (All-rest (IsPath net ends) path paths all)) [
+      | inr hit ↦ elim (survivor_or_hits net ends failed paths (All-tail (IsPath net ends) path paths all)) [
         | inl found ↦ inl found
         | inr more ↦ inr (
             let here : 1 ≤ hits failed path.links = subst (λ (ls : List Link). 1 ≤ hits failed ls) shown.links hit in

@@ -11,10 +11,10 @@ use Rattle.net_model.specs.Policies.{IsClear}
 use Rattle.net_model.specs.Validity.{IsValid}
 use Rattle.net_model.specs.Witnesses.{Path}
 use Rattle.net_model.proofs.Packets.{first_is_of}
-use Rattle.net_laws.proofs.StableMaps.{cost-pos, head_in, reached}
+use Rattle.net_laws.proofs.StableMaps.{cost-pos, head_in, reached, value_of}
 use Rattle.net_laws.proofs.FailedLinks.{Alive}
 use Rattle.net_laws.proofs.RightPaths.{known, not_stuck}
-use Rattle.net_laws.proofs.RightCuts.{source_in, value_of, stuck_at_source}
+use Rattle.net_laws.proofs.RightCuts.{source_in, stuck_at_source}
 use Rattle.net_laws.proofs.Existence.{some_stable_map}
 use Rattle.net_laws.specs.Breaking.{ReachesUnder}
 use Rattle.net_laws.specs.Routes.{Passes, Route, HasRoute, RoutesDecide}

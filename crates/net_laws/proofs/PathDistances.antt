@@ -1,11 +1,14 @@
 -- With all links failed but those of a path that repeats no router, the stable map runs along the path.
 use Rattle.std.proofs.Common.{◌≡◌, ℕ, ◌+◌, ◌≤◌, ◌≢◌, ◌⊎◌, inl, inr, ⊎_elim, Bool, true, false, not, Option, Some, None, List, [], ◌∷◌, ap, refl, sym, ◌∙◌, subst, arith}
-use Rattle.std.specs.Prelude.{All, AllPairs, MatchOption, IsFalse, if◌then◌else◌, ◌==◌, map, slice_get, unwrap_or, is_some}
+use Rattle.std.specs.Prelude.{All, AllPairs, MatchOption, IsFalse, if◌then◌else◌, ◌==◌, map, slice_get, unwrap_or}
 use Rattle.std.specs.List.{AllByRecursion}
-use Rattle.std.proofs.lemmas.Bool.{eq-eqb, ne_eqb, false≢true}
+use Rattle.std.proofs.lemmas.Bool.{eq-eqb, ne_eqb}
 use Rattle.std.proofs.lemmas.Bool.Decides.{eqb_tells}
+use Rattle.std.proofs.lemmas.Option.{none-some}
+use Rattle.std.proofs.lemmas.List.Elements.{All-head, All-tail}
 use Rattle.arc_base.specs.declared.prefix.Prefix.{Prefix}
 use Rattle.arc_base.specs.declared.place.Face.{Face}
+use Rattle.arc_base.proofs.Items.{AllPairs-rest}
 use Rattle.net_model.specs.declared.lists.Packet.{Packet}
 use Rattle.net_model.specs.declared.rows.FaceRow.{FaceRow}
 use Rattle.net_model.specs.declared.rows.LinkRow.{LinkRow}
@@ -14,7 +17,7 @@ use Rattle.net_model.specs.Routing.{Arc, IsArc, IsRouted, Offers, IsStable, cost
 use Rattle.net_model.specs.Forwarding.{Attains, ArcPermits, Walk}
 use Rattle.net_model.specs.Witnesses.{Path, routers_of}
 use Rattle.net_model.proofs.Arcs.{one_item, IsArc-unique}
-use Rattle.net_laws.proofs.Cover.{AllPairs-first, AllPairs-rest, All-first, All-rest}
+use Rattle.net_laws.proofs.Cover.{AllPairs-first}
 
 same_or_other : (f g : Bool) → (f ≡ g) ⊎ (not f ≡ g)
 same_or_other true true = inl refl
@@ -22,11 +25,11 @@ same_or_other true false = inr refl
 same_or_other false true = inr refl
 same_or_other false false = inl refl
 
-other_tail : (row : LinkRow) (f : Bool) → tail_end row (not f) ≡ head_end row f
+pub other_tail : (row : LinkRow) (f : Bool) → tail_end row (not f) ≡ head_end row f
 other_tail row true = refl
 other_tail row false = refl
 
-other_head : (row : LinkRow) (f : Bool) → head_end row (not f) ≡ tail_end row f
+pub other_head : (row : LinkRow) (f : Bool) → head_end row (not f) ≡ tail_end row f
 other_head row true = refl
 other_head row false = refl
 
@@ -68,8 +71,8 @@ Once u (arc ∷ arcs) = ((w : ℕ) → IsHead (arc ∷ arcs) w → u ≢ w) × O
 
 All-IsHead : (P : ℕ → Type 0) (arcs : List Arc) → All P (map head_router arcs) → (w : ℕ) → IsHead arcs w → P w
 All-IsHead P [] all w at = absurd at
-All-IsHead P (arc ∷ arcs) all w (inl e) = subst P e (All-first P (head_router arc) (map head_router arcs) all)
-All-IsHead P (arc ∷ arcs) all w (inr at) = All-IsHead P arcs (All-rest P (head_router arc) (map head_router arcs) all) w at
+All-IsHead P (arc ∷ arcs) all w (inl e) = subst P e (All-head P (head_router arc) (map head_router arcs) all)
+All-IsHead P (arc ∷ arcs) all w (inr at) = All-IsHead P arcs (All-tail P (head_router arc) (map head_router arcs) all) w at
 
 pub Once-from : (u : ℕ) (arcs : List Arc) → AllPairs (λ v w. v ≢ w) (routers_of u arcs) → Once u arcs
 Once-from u [] apart = tt
@@ -93,9 +96,6 @@ on_route_or_off (arc ∷ arcs) u w =
         | inr never ↦ inr (λ on. ⊎_elim off.1 never on)
       ]
     ]
-
-some_is_not_none : (n : ℕ) → ◌≡◌ {A = Option ℕ} None (Some n) → ⊥
-some_is_not_none n e = false≢true (ap is_some e)
 
 module _ (net : Network) (to : Prefix) (t : ℕ) where
   -- what the way along the arcs costs
@@ -228,9 +228,9 @@ module _ (net : Network) (to : Prefix) (t : ℕ) where
         let both : OnRoute u arcs (tail_router offer.arc) × OnRoute u arcs (head_router offer.arc) = ends_on arcs u path offer.arc offer.usable.is_arc on in
         let at : OnRoute u arcs w = subst (OnRoute u arcs) offer.tail both.0 in
         elim (eqb_tells w t) [
-          | inl end ↦ some_is_not_none 0 (sym none ∙ ap (along arcs) end.1 ∙ along-end arcs u path once)
+          | inl end ↦ none-some 0 (sym none ∙ ap (along arcs) end.1 ∙ along-end arcs u path once)
           | inr off ↦ let next : Onward arcs w = onward arcs u w path once at off.1 in
-              some_is_not_none (cost net next.arc + next.rest) (sym none ∙ next.here)
+              none-some (cost net next.arc + next.rest) (sym none ∙ next.here)
         ]
 
     offered_here : (w : ℕ) → OnRoute u arcs w → w ≢ t → (least : ℕ) → along arcs w ≡ Some least → Offers net to failed (along arcs) w least

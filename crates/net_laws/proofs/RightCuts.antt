@@ -1,5 +1,5 @@
 -- With the links of a right cut failed the source has no distance, and packets of a denied class are stuck at their target.
-use Rattle.std.proofs.Common.{◌≡◌, ℕ, zero, suc, ◌+◌, ◌*◌, ◌<◌, ◌≤◌, ◌⊎◌, inl, inr, Bool, true, false, Option, Some, None, List, [], ◌∷◌, length, ap, refl, sym, ◌∙◌, subst, arith}
+use Rattle.std.proofs.Common.{◌≡◌, ℕ, zero, suc, ◌+◌, ◌*◌, ◌<◌, ◌≤◌, inl, inr, Bool, true, false, Option, Some, None, List, [], ◌∷◌, length, ap, refl, sym, ◌∙◌, subst, arith}
 use Rattle.std.specs.Prelude.{Contains, ◌==◌, ◌||◌, slice_get, is_some}
 use Rattle.std.proofs.lemmas.Bool.{false≢true, eq-eqb, ne_eqb}
 use Rattle.std.proofs.lemmas.Bool.Decides.{eqb_tells}
@@ -21,7 +21,7 @@ use Rattle.net_laws.specs.Laws.{RightCutsSeparate, RightCutsBreakReach, RightDen
 use Rattle.net_laws.specs.Breaking.{no_link, ReachesUnder, BreaksAs}
 use Rattle.net_laws.proofs.Counting.{total, total-sum, total-mono, total-cong, total-const, ind}
 use Rattle.net_laws.proofs.FailedLinks.{count-range, times}
-use Rattle.net_laws.proofs.StableMaps.{cost-pos, head_in, reached}
+use Rattle.net_laws.proofs.StableMaps.{cost-pos, head_in, reached, value_of}
 use Rattle.net_laws.proofs.RightWalks.{part_of}
 use Rattle.net_laws.proofs.Existence.{some_stable_map}
 
@@ -99,10 +99,6 @@ source_in net valid class ends are =
     let read : slice_get net.faces are.source.0 ≡ Some ends.source =
     slice_get-get_or net.faces are.source.0 ends.source are.source.1 ∙ ap Some are.source.2 in
     let face : IsValidFace net are.source.0 ends.source = valid.faces are.source.0 ends.source read in face.router
-
-pub value_of : (o : Option ℕ) → (o ≡ None) ⊎ ((n : ℕ) × (o ≡ Some n))
-value_of None = inl refl
-value_of (Some n) = inr (n, refl)
 
 pub right_cuts_separate : RightCutsSeparate
 right_cuts_separate net valid ends k whole links side are cut = (

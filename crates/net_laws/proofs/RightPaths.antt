@@ -10,7 +10,7 @@ use Rattle.net_model.specs.declared.verdicts.LinkPath.{LinkPath}
 use Rattle.net_model.specs.declared.rows.Network.{Network}
 use Rattle.net_model.specs.Packets.{IsOfClass}
 use Rattle.net_model.specs.Routing.{Arc, IsArc, IsStable, Offers, cost, tail_router, head_router, tail_face}
-use Rattle.net_model.specs.Forwarding.{Ends, Attains, Walk, Leaves, IsDenied, IsStuck, failures, source_router, target_router}
+use Rattle.net_model.specs.Forwarding.{Ends, Attains, Walk, Leaves, IsStuck, failures, source_router, target_router}
 use Rattle.net_model.specs.Policies.{IsClear}
 use Rattle.net_model.specs.Validity.{IsValid, IsValidFace}
 use Rattle.net_model.specs.Witnesses.{Path, IsRightPaths}

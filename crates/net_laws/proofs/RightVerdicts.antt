@@ -50,7 +50,7 @@ pub right_verdicts_are_true : (net : Network) → IsValid net → RightVerdictsA
 right_verdicts_are_true net valid policy v right = says net valid right.ends (subject policy) right.are_ends policy.kind v right.right
 
 -- what meets a policy holds
-meets_holds : (net : Network) (ends : Ends) (whole : Class) (kind : PolicyKind) → MeetsAs net ends whole kind → HoldsAs net ends whole kind
+pub meets_holds : (net : Network) (ends : Ends) (whole : Class) (kind : PolicyKind) → MeetsAs net ends whole kind → HoldsAs net ends whole kind
 meets_holds net ends whole Blocked meets = meets
 meets_holds net ends whole Through meets = meets
 meets_holds net ends whole (Reach k) meets = meets.1

@@ -85,7 +85,7 @@ right_walks_unblock net ends whole class shown right blocked =
     breaks.broken (blocked (all_but shown))
 
 -- arcs over no waypoint link cross none
-plain : (arcs : List Arc) → AllByRecursion (MayBreak Through) arcs → CrossesWaypoint arcs → ⊥
+pub plain : (arcs : List Arc) → AllByRecursion (MayBreak Through) arcs → CrossesWaypoint arcs → ⊥
 plain [] breaks crosses = absurd (omega (arith, crosses.2))
 plain (arc ∷ arcs) breaks (zero, x, within, e, crosses) = false≢true (sym breaks.0 ∙ ap (λ (a : Arc). a.row.waypoint) e ∙ crosses)
 plain (arc ∷ arcs) breaks (suc k, x, within, e, crosses) = plain arcs breaks.1 (k, x, omega arith, e, crosses)

@@ -1,8 +1,8 @@
 -- Two stable maps for one host network and one failure set are equal.
 use Rattle.std.proofs.Common.{◌≡◌, ℕ, suc, zero, ◌+◌, ◌<◌, ◌≤◌, ◌≢◌, ◌⊎◌, inl, inr, Bool, Option, Some, None, length, ap, refl, sym, ◌∙◌, subst, arith}
-use Rattle.std.specs.Prelude.{MatchOption, unwrap_or, is_some}
-use Rattle.std.proofs.lemmas.Bool.{false≢true}
+use Rattle.std.specs.Prelude.{MatchOption, unwrap_or}
 use Rattle.std.proofs.lemmas.Bool.Decides.{eqb_tells}
+use Rattle.std.proofs.lemmas.Option.{none-some}
 use Rattle.arc_base.specs.declared.prefix.Prefix.{Prefix}
 use Rattle.net_model.specs.declared.rows.Protocol.{Protocol}
 use Rattle.net_model.specs.declared.rows.Protocol.TheVariants.{Ospf, Bgp}
@@ -12,7 +12,7 @@ use Rattle.net_model.specs.Validity.{IsValid, IsValidFace}
 use Rattle.net_laws.specs.Laws.{HasOneStableMap}
 
 -- the costs of a valid network are positive
-cost_at-pos : (protocol : Protocol) (arc : Arc) → 1 ≤ arc.tail.cost → 1 ≤ cost_at protocol arc
+pub cost_at-pos : (protocol : Protocol) (arc : Arc) → 1 ≤ arc.tail.cost → 1 ≤ cost_at protocol arc
 cost_at-pos Ospf arc h = h
 cost_at-pos Bgp arc h = omega arith
 
@@ -26,9 +26,9 @@ pub head_in : (net : Network) → IsValid net → (arc : Arc) → IsArc net arc 
 head_in net valid arc is_arc =
     let face : IsValidFace net (head_face arc).0 arc.head = valid.faces (head_face arc).0 arc.head is_arc.head in face.router
 
-none_or_some : (o : Option ℕ) → (o ≡ None) ⊎ ((n : ℕ) × (o ≡ Some n))
-none_or_some None = inl refl
-none_or_some (Some n) = inr (n, refl)
+pub value_of : (o : Option ℕ) → (o ≡ None) ⊎ ((n : ℕ) × (o ≡ Some n))
+value_of None = inl refl
+value_of (Some n) = inr (n, refl)
 
 module _ (net : Network) (valid : IsValid net) (to : Prefix) (owner : ℕ) (failed : ℕ → Bool) where
   -- what is offered to a router is known and no more
@@ -38,7 +38,7 @@ module _ (net : Network) (valid : IsValid net) (to : Prefix) (owner : ℕ) (fail
       let Nothing : Type 0 = (k : ℕ) → Offers net to failed e u k → ⊥ in
       let Least : ℕ → Type 0 = λ least. Offers net to failed e u least × ((k : ℕ) → Offers net to failed e u k → least ≤ k) in
       let at : MatchOption (e u) Nothing Least = stable.elsewhere u u_in apart in
-      elim (none_or_some (e u)) [
+      elim (value_of (e u)) [
         | inl none ↦ let nothing : Nothing = subst (λ (o : Option ℕ). MatchOption o Nothing Least) none at in absurd (nothing n offer)
         | inr some ↦ let least : Least some.0 = subst (λ (o : Option ℕ). MatchOption o Nothing Least) some.1 at in
             (some.0, some.1, least.1 n offer)
@@ -72,17 +72,14 @@ module _ (net : Network) (valid : IsValid net) (to : Prefix) (owner : ℕ) (fail
             (best.0, best.1, omega (arith, o.sum, next.2, best.2))
       ]
 
-some_apart : (n : ℕ) → ◌≡◌ {A = Option ℕ} None (Some n) → ⊥
-some_apart n e = false≢true (ap is_some e)
-
 pub one_stable_map : (net : Network) → IsValid net → HasOneStableMap net
 one_stable_map net valid to owner failed d e of_d of_e u u_in =
-    elim (none_or_some (d u)) [
-      | inl none ↦ elim (none_or_some (e u)) [
+    elim (value_of (d u)) [
+      | inl none ↦ elim (value_of (e u)) [
         | inl none_e ↦ none ∙ sym none_e
         | inr some ↦
             let back : (m : ℕ) × (d u ≡ Some m) × (m ≤ some.0) = no_more net valid to owner failed e d of_e of_d (some.0 + 1) u some.0 (omega arith) u_in some.1 in
-            absurd (some_apart back.0 (sym none ∙ back.1))
+            absurd (none-some back.0 (sym none ∙ back.1))
       ]
       | inr some ↦
           let there : (m : ℕ) × (e u ≡ Some m) × (m ≤ some.0) = no_more net valid to owner failed d e of_d of_e (some.0 + 1) u some.0 (omega arith) u_in some.1 in

@@ -1,6 +1,7 @@
 -- Sums over triples of numbers, the first two below n and the third below m, and how many services a range has.
-use Rattle.std.proofs.Common.{◌≡◌, ℕ, ◌+◌, ◌-◌, ◌*◌, ◌^◌, ◌<◌, ◌≤◌, ◌⊎◌, inl, inr, Bool, true, false, ap, refl, ◌∙◌, arith}
+use Rattle.std.proofs.Common.{◌≡◌, ℕ, ◌+◌, ◌-◌, ◌*◌, ◌^◌, ◌<◌, ◌≤◌, inl, inr, ap, refl, ◌∙◌, arith}
 use Rattle.std.proofs.Math.Nat.{mul_comm}
+use Rattle.std.proofs.lemmas.Bool.{cases_Bool}
 use Rattle.net_model.specs.declared.services.Service.{Service}
 use Rattle.net_model.specs.Services.{Serves, serves, services}
 use Rattle.net_model.proofs.ServiceRanges.{bounds, serve}
@@ -55,13 +56,9 @@ module _ (n m : ℕ) (f g : ℕ → ℕ → ℕ → ℕ) (below : (a b c : ℕ) 
       let cell : total m (f a b) ≤ total m (g a b) = total-tight n (λ y. total m (f a y)) (λ y. total m (g a y)) (cells a) row b l in
       total-tight m (f a b) (g a b) (λ z i. below a b z) cell c j
 
-pub true_or_false : (b : Bool) → (b ≡ true) ⊎ (b ≡ false)
-true_or_false true = inl refl
-true_or_false false = inr refl
-
 -- a service that the range does not have counts as 0
 not_served : (s : Service) (n : ℕ) → (Serves s n → ⊥) → ind (serves s n) ≡ 0
-not_served s n h = elim (true_or_false (serves s n)) [
+not_served s n h = elim (cases_Bool (serves s n)) [
   | inl served ↦ absurd (h served)
   | inr off ↦ ap ind off
 ]

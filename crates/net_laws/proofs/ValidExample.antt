@@ -1,10 +1,10 @@
 -- The network of two routers is valid.
-use Rattle.std.proofs.Common.{◌≡◌, ℕ, zero, suc, ◌≢◌, ◌⊎◌, ⊎_elim, inl, inr, Option, Some, None, List, [], ◌∷◌, get_or, refl, sym, ap, subst, arith}
-use Rattle.std.specs.Prelude.{All, AllPairs, codes, slice_get, unwrap_or, is_some, ◌==◌}
+use Rattle.std.proofs.Common.{◌≡◌, ℕ, zero, suc, ◌≢◌, ◌⊎◌, ⊎_elim, inl, inr, Option, Some, None, List, [], get_or, refl, sym, ap, subst, arith}
+use Rattle.std.specs.Prelude.{AllPairs, codes, slice_get, is_some, ◌==◌}
 use Rattle.std.proofs.lemmas.Bool.{false≢true}
-use Rattle.std.proofs.lemmas.List.Elements.{All-from_recursion}
-use Rattle.std.proofs.lemmas.List.Kept.{AllPairs-cons}
+use Rattle.std.proofs.lemmas.List.Elements.{All-from_recursion, All-nil}
 use Rattle.std.proofs.lemmas.List.Sums.{count_by-le-length}
+use Rattle.std.proofs.lemmas.Option.{same_Some}
 use Rattle.arc_base.specs.Addresses.{AreDisjoint}
 use Rattle.arc_base.specs.declared.prefix.Prefix.{Prefix}
 use Rattle.arc_base.proofs.Agreement.{AreDisjoint-firsts}
@@ -15,10 +15,8 @@ use Rattle.net_model.specs.declared.rows.LinkRow.{LinkRow}
 use Rattle.net_model.specs.declared.rows.RouterRow.{RouterRow}
 use Rattle.net_model.specs.Validity.{AreLinksApart, AreSessionsApart, IsValidSession, IsValidPacketList, IsValidRouteList, IsValidFace, IsValidLink, IsLinkEnd, EndsAt, AreLinked, AreApart}
 use Rattle.arc_base.specs.NameForms.{IsFaceName, IsName}
+use Rattle.arc_base.proofs.Items.{AllPairs-none, AllPairs-single}
 use Rattle.net_laws.specs.Examples.{two_routers, users_1, users_2, between, end_1, end_2, owner_2, owner_1, the_link, ExampleIsValid}
-
-read_is : {X : Type 0} (x y : X) → ◌≡◌ {A = Option X} (Some x) (Some y) → x ≡ y
-read_is x y e = ap (λ o. unwrap_or o x) e
 
 -- the link ends at no interface but its two
 only_ends : (k : ℕ) → (1 ≡ k → ⊥) → (3 ≡ k → ⊥) → IsLinkEnd two_routers k → ⊥
@@ -60,16 +58,16 @@ valid_3 : IsValidFace two_routers 3 end_2
 valid_3 = record { router = omega arith; list_in = tt; list_out = tt; host = tt; cost_low = omega arith; cost_high = omega arith; name = named_1 }
 
 faces : (place : ℕ) (face : FaceRow) → slice_get two_routers.faces place ≡ Some face → IsValidFace two_routers place face
-faces zero f e = subst (IsValidFace two_routers 0) (read_is owner_1 f e) valid_0
-faces (suc zero) f e = subst (IsValidFace two_routers 1) (read_is end_1 f e) valid_1
-faces (suc (suc zero)) f e = subst (IsValidFace two_routers 2) (read_is owner_2 f e) valid_2
-faces (suc (suc (suc zero))) f e = subst (IsValidFace two_routers 3) (read_is end_2 f e) valid_3
+faces zero f e = subst (IsValidFace two_routers 0) (same_Some owner_1 f e) valid_0
+faces (suc zero) f e = subst (IsValidFace two_routers 1) (same_Some end_1 f e) valid_1
+faces (suc (suc zero)) f e = subst (IsValidFace two_routers 2) (same_Some owner_2 f e) valid_2
+faces (suc (suc (suc zero))) f e = subst (IsValidFace two_routers 3) (same_Some end_2 f e) valid_3
 faces (suc (suc (suc (suc k)))) f e = absurd (false≢true (ap is_some e))
 
 links : (place : ℕ) (link : LinkRow) → slice_get two_routers.links place ≡ Some link → IsValidLink two_routers link
 links zero l e =
     let valid : IsValidLink two_routers the_link = record { a = end_1; b = end_2; a_is = refl; b_is = refl; routers = λ q. omega arith } in
-    subst (IsValidLink two_routers) (read_is the_link l e) valid
+    subst (IsValidLink two_routers) (same_Some the_link l e) valid
 links (suc k) l e = absurd (false≢true (ap is_some e))
 
 apart_12 : AreDisjoint users_1 users_2
@@ -86,7 +84,7 @@ turn p q h a x y = h a y x
 
 -- what is said of two rows holds of what is read
 of_rows : (f g x y : FaceRow) → AreApart f g → ◌≡◌ {A = Option FaceRow} (Some f) (Some x) → ◌≡◌ {A = Option FaceRow} (Some g) (Some y) → AreApart x y
-of_rows f g x y h e q = subst (λ (z : FaceRow). AreApart x z) (read_is g y q) (subst (λ (z : FaceRow). AreApart z g) (read_is f x e) h)
+of_rows f g x y h e q = subst (λ (z : FaceRow). AreApart x z) (same_Some g y q) (subst (λ (z : FaceRow). AreApart z g) (same_Some f x e) h)
 
 joined_13 : AreLinked two_routers 1 3
 joined_13 = (0, the_link, omega arith, refl, (inl refl, inr refl))
@@ -129,15 +127,6 @@ name_1 = record { some = omega arith; few = omega arith; bytes = (refl, (refl, t
 name_2 : IsName (codes "r2")
 name_2 = record { some = omega arith; few = omega arith; bytes = (refl, (refl, tt)) }
 
-nothing : {X : Type 0} (P : X → Type 0) → All P []
-nothing P k d l = absurd (omega (arith, l))
-
-no_pairs : {X : Type 0} (R : X → X → Type 0) → AllPairs R []
-no_pairs R i j d l m = absurd (omega (arith, l, m))
-
-one_pair : {X : Type 0} (R : X → X → Type 0) (x : X) → AllPairs R (x ∷ [])
-one_pair R x = AllPairs-cons R x [] (nothing (R x)) (no_pairs R)
-
 last_differs : codes "GigabitEthernet0/0" ≢ codes "GigabitEthernet0/1"
 last_differs = named_apart 17 (codes "GigabitEthernet0/0") (codes "GigabitEthernet0/1") (λ e. omega (arith, e))
 
@@ -170,9 +159,9 @@ pub example_is_valid : ExampleIsValid
 example_is_valid = record {
   faces = faces;
   links = links;
-  links_apart = one_pair AreLinksApart the_link;
-  sessions = nothing (IsValidSession two_routers);
-  sessions_apart = no_pairs (AreSessionsApart two_routers);
+  links_apart = AllPairs-single AreLinksApart the_link;
+  sessions = All-nil (IsValidSession two_routers);
+  sessions_apart = AllPairs-none (AreSessionsApart two_routers);
   subnets = subnets;
   few_routers = omega arith;
   few_links = omega arith;
@@ -180,9 +169,9 @@ example_is_valid = record {
   router_names = All-from_recursion (λ (r : RouterRow). IsName r.name) two_routers.routers (name_1, (name_2, tt));
   routers_named_apart = routers_apart;
   faces_named_apart = faces_apart;
-  packet_lists = nothing (IsValidPacketList two_routers);
-  packet_lists_named_apart = no_pairs (λ (l : PacketList) (m : PacketList). l.router.0 ≡ m.router.0 → l.name ≢ m.name);
-  route_lists = nothing (IsValidRouteList two_routers);
-  route_lists_named_apart = no_pairs (λ (l : RouteList) (m : RouteList). l.router.0 ≡ m.router.0 → l.name ≢ m.name);
+  packet_lists = All-nil (IsValidPacketList two_routers);
+  packet_lists_named_apart = AllPairs-none (λ (l : PacketList) (m : PacketList). l.router.0 ≡ m.router.0 → l.name ≢ m.name);
+  route_lists = All-nil (IsValidRouteList two_routers);
+  route_lists_named_apart = AllPairs-none (λ (l : RouteList) (m : RouteList). l.router.0 ≡ m.router.0 → l.name ≢ m.name);
   protocol = refl;
 }

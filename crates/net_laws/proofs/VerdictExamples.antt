@@ -1,9 +1,10 @@
 -- Right witnesses on the network of two routers: between the users the link is the one path and the one cut.
 use Rattle.std.proofs.Common.{◌≡◌, ℕ, zero, suc, ◌≢◌, inr, true, false, Some, [], ◌∷◌, refl, sym, ◌∙◌, ap, subst, arith}
-use Rattle.std.specs.Prelude.{All, AllPairs, Contains, slice_get, unwrap_or, is_some}
+use Rattle.std.specs.Prelude.{All, Contains, slice_get, unwrap_or, is_some}
 use Rattle.std.proofs.lemmas.Bool.{false≢true}
 use Rattle.std.proofs.lemmas.List.Kept.{AllPairs-cons}
 use Rattle.arc_base.specs.declared.place.Link.{Link}
+use Rattle.arc_base.proofs.Items.{AllPairs-single}
 use Rattle.net_model.specs.declared.lists.Packet.{Packet}
 use Rattle.net_model.specs.declared.policies.Class.{Class}
 use Rattle.net_model.specs.declared.rows.FaceRow.{FaceRow}
@@ -47,10 +48,6 @@ only : {X : Type 0} (P : X → Type 0) (x : X) → P x → All P (x ∷ [])
 only P x h zero d l = h
 only P x h (suc k) d l = absurd (omega (arith, l))
 
-one : {X : Type 0} (R : X → X → Type 0) (x : X) → AllPairs R (x ∷ [])
-one R x i zero d l m = absurd (omega (arith, l))
-one R x i (suc j) d l m = absurd (omega (arith, m))
-
 pub one_path_is_right : OnePathIsRight
 one_path_is_right = record {
   ends = ends;
@@ -62,7 +59,7 @@ one_path_is_right = record {
     apart = λ e. refl;
     together = λ e. absurd (omega (arith, e));
     are_paths = only (IsPath two_routers ends) over_link_1 path;
-    once = one (λ (l : Link) (m : Link). l ≢ m) link_1;
+    once = AllPairs-single (λ (l : Link) (m : Link). l ≢ m) link_1;
   };
 }
 
@@ -74,7 +71,7 @@ one_walk_is_right = record {
   right = record {
     part = (λ a h. h, λ a h. h, λ s h. h);
     path = record { arcs = forth ∷ []; links = refl; leads = (is_forth, forth_routed, refl, refl) };
-    once = AllPairs-cons (λ (u : ℕ) (v : ℕ). u ≢ v) 0 (1 ∷ []) (only (λ (v : ℕ). 0 ≢ v) 1 (λ e. omega (arith, e))) (one (λ (u : ℕ) (v : ℕ). u ≢ v) 1);
+    once = AllPairs-cons (λ (u : ℕ) (v : ℕ). u ≢ v) 0 (1 ∷ []) (only (λ (v : ℕ). 0 ≢ v) 1 (λ e. omega (arith, e))) (AllPairs-single (λ (u : ℕ) (v : ℕ). u ≢ v) 1);
     enters = λ p of. (refl, tt);
     permitted = λ p of. (permit forth is_forth p, tt);
     leaves = λ p of. (refl, tt);

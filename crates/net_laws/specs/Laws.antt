@@ -21,9 +21,8 @@ use Rattle.net_model.specs.Forwarding.{Ends, AreEnds, IsDelivered, failures, sou
 use Rattle.net_model.specs.Forwarding.{target_router}
 use Rattle.net_model.specs.Policies.{IsBlocked, GoesThrough, IsClear, Reaches, HoldsAs, MeetsAs}
 use Rattle.net_model.specs.Policies.{Meets}
-use Rattle.net_model.specs.Witnesses.{is_yes, IsRightClosed, IsRightWalk, IsRightPaths}
-use Rattle.net_model.specs.Witnesses.{IsRightDenied, IsRightCut, IsRightRefused, IsRight, among}
-use Rattle.net_model.specs.Witnesses.{all_but}
+use Rattle.net_model.specs.Witnesses.{IsRightClosed, IsRightPaths, IsRightDenied, IsRightRefused}
+use Rattle.net_model.specs.Witnesses.{is_yes, IsRightWalk, IsRightCut, IsRight, among, all_but}
 
 -- at most one map is stable for a host network, its owner and a failure set: two stable maps agree
 -- on every router of the network

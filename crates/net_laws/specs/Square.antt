@@ -25,7 +25,7 @@ use Rattle.net_model.specs.Routing.{Arc, DistanceMap, IsStable}
 use Rattle.net_model.specs.Forwarding.{Ends, IsDelivered}
 use Rattle.net_model.specs.Policies.{IsBlocked}
 use Rattle.net_model.specs.Witnesses.{IsRight}
-use Rattle.net_laws.specs.Examples.{users_1, users_2}
+use Rattle.net_laws.specs.Examples.{users_1, users_2, between as subnet_1}
 
 -- 10.3.0.0/24, the host network of the third router
 abbrev pub users_3 : Prefix
@@ -38,10 +38,6 @@ users_4 = record { addr = 168034304; len = 24; in_range = lit< tt; length = lit�
 -- the prefix of all addresses
 abbrev pub everyone : Prefix
 everyone = record { addr = 0; len = 0; in_range = lit< tt; length = lit≤ tt; clear = refl }
-
--- 10.0.1.0/30, the subnet of link 1
-abbrev pub subnet_1 : Prefix
-subnet_1 = record { addr = 167772416; len = 30; in_range = lit< tt; length = lit≤ tt; clear = refl }
 
 -- 10.0.2.0/30, the subnet of link 2
 abbrev pub subnet_2 : Prefix

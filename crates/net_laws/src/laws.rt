@@ -9,9 +9,8 @@ ghost use Rattle.net_laws.specs.Laws.{RightCutsSeparate, RightCutsBreakReach};
 ghost use Rattle.net_laws.specs.Laws.{RightDenialsBreakReach, HasOnePairOfEnds};
 ghost use Rattle.net_laws.specs.Laws.{RightVerdictsAreTrue, RightVerdictsDecide};
 ghost use Rattle.net_laws.specs.Routes.{RoutesDecide, RoutesDecideAllUp};
-ghost use Rattle.net_laws.specs.Square.{SquareDistancesAreStable, SquareDeliversNone};
-ghost use Rattle.net_laws.specs.Square.{SquareIsNotBlocked, SquareWalkIsRight};
-ghost use Rattle.net_laws.specs.Square.{SquareRefusalIsRight};
+ghost use Rattle.net_laws.specs.Square.{SquareDistancesAreStable, SquareRefusalIsRight};
+ghost use Rattle.net_laws.specs.Square.{SquareDeliversNone, SquareIsNotBlocked, SquareWalkIsRight};
 ghost use Rattle.net_model.specs.Validity.{IsValid};
 ghost use Rattle.net_model.specs.declared.rows.Network.{Network};
 

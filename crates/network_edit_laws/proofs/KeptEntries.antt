@@ -1,5 +1,5 @@
 -- The entries of the packet lists after edits: those that there were, one for a class of the document, or the last of a new list.
-use Rattle.std.proofs.Common.{◌≡◌, ℕ, ◌⊎◌, inl, inr, Bool, false, Some, List, [], ◌∷◌, ◌++◌, map, refl, ap, subst}
+use Rattle.std.proofs.Common.{◌≡◌, ℕ, ◌⊎◌, inl, inr, Bool, false, Some, List, [], ◌∷◌, map, refl, subst}
 use Rattle.std.specs.Prelude.{Contains, slice_get}
 use Rattle.std.proofs.lemmas.List.Elements.{Contains-append_right, Contains-append_cases}
 use Rattle.arc_base.proofs.Items.{from_map, Contains-cases, Contains-none}

@@ -2,7 +2,6 @@
 use Rattle.std.proofs.Common.{◌≡◌, ℕ, ◌<◌, ◌≤◌, ◌^◌, ◌&&◌, Bool, true, false, cond, inl, inr, Option, Some, None, List, [], ◌∷◌, sym, ◌∙◌, ap, subst, arith}
 use Rattle.std.specs.Prelude.{Contains, nat_le}
 use Rattle.std.specs.List.{find}
-use Rattle.std.specs.Option.{option_map_or}
 use Rattle.std.proofs.lemmas.Bool.{false≢true, cases_Bool, and_parts, and_from, le-leb}
 use Rattle.arc_base.specs.Addresses.{holds, inside, Holds}
 use Rattle.arc_base.specs.declared.prefix.Prefix.{Prefix}
@@ -19,13 +18,7 @@ use Rattle.net_model.specs.Packets.{IsOfClass}
 use Rattle.net_model.proofs.ServiceRanges.{bounds, serve}
 use Rattle.traffic_classes.proofs.Ranges.{holds_range}
 use Rattle.edit_list.specs.After.{any, every_packet, class_entry, exact_entry, new_packet_entries, new_route_entries}
-use Rattle.network_edit_laws.proofs.Turning.{exactly, itself}
-
-abbrev packet_answer : Option PacketEntry → Bool
-packet_answer o = option_map_or (λ (e : PacketEntry). e.permit) o false
-
-abbrev route_answer : Option RouteEntry → Bool
-route_answer o = option_map_or (λ (e : RouteEntry). e.permit) o false
+use Rattle.network_edit_laws.proofs.Turning.{exactly, itself, packet_answer, route_answer}
 
 packet_step : (e : PacketEntry) (b c : Bool) (o : Option PacketEntry) → b ≡ c → packet_answer (cond b (Some e) o) ≡ packet_answer (cond c (Some e) o)
 packet_step e b c o same = ap (λ d. packet_answer (cond d (Some e) o)) same

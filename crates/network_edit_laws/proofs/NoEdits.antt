@@ -15,13 +15,14 @@ use Rattle.net_model.specs.declared.rows.SessionRow.{SessionRow}
 use Rattle.net_model.specs.declared.rows.Network.{Network}
 use Rattle.net_model.specs.Validity.{IsValid, IsValidSession}
 use Rattle.net_model.proofs.Readings.{place_of_item, item_at_place}
+use Rattle.net_model.proofs.Arcs.{one_item}
 use Rattle.edit_list.specs.declared.list_kinds.NewList.{NewList}
 use Rattle.edit_list.specs.After.{StaysBound, passive_after, IsNewPacketList, IsNewRouteList, IsRouterAfter, IsFaceAfter, IsSessionAfter}
 use Rattle.network_edit_laws.specs.Laws.{NoEditsChangeNothing, NoEditsCostNothing}
 use Rattle.edit_list.specs.NewLists.{new_route_list, new_packet_list, new_lists, new_lists_of, new_names_of, free_names, names_of, IsNewList}
 use Rattle.arc_base.specs.Numbered.{placed, of_number}
 use Rattle.arc_base.specs.NameForms.{IsNameBefore}
-use Rattle.edit_list.proofs.RowFacts.{item_of, one_item}
+use Rattle.edit_list.proofs.RowFacts.{item_of}
 
 pub none_cost : NoEditsCostNothing
 none_cost weights = refl

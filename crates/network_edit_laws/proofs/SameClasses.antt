@@ -1,10 +1,10 @@
 -- After edits for a document its policies have the same classes: what the new entries mark is a leaf already.
-use Rattle.std.proofs.Common.{◌≡◌, ℕ, ◌↔◌, ◌⊎◌, inl, inr, Bool, true, false, Some, List, [], ◌∷◌, ◌++◌, map, refl, sym, ◌∙◌, ap, subst, arith}
-use Rattle.std.specs.Prelude.{Contains, slice_get}
+use Rattle.std.proofs.Common.{◌≡◌, ◌↔◌, ◌⊎◌, inl, inr, Bool, List, [], ◌∷◌, ◌++◌, map, refl, sym, ◌∙◌, ap, subst, arith}
+use Rattle.std.specs.Prelude.{Contains}
 use Rattle.std.specs.List.{flat_map, AllZip}
 use Rattle.std.proofs.lemmas.List.Elements.{Contains-append_left, Contains-append_right, Contains-append_cases}
 use Rattle.arc_base.proofs.Agreement.{Holds-first}
-use Rattle.arc_base.proofs.Items.{Contains-map, from_map, Contains-piece, from_piece, Contains-cases, Contains-none}
+use Rattle.arc_base.proofs.Items.{Contains-map, from_map, Contains-piece, from_piece}
 use Rattle.arc_base.specs.declared.prefix.Prefix.{Prefix}
 use Rattle.net_model.specs.declared.lists.PacketEntry.{PacketEntry}
 use Rattle.net_model.specs.declared.lists.PacketList.{PacketList}
@@ -25,7 +25,7 @@ use Rattle.edit_list.specs.After.{any, class_entry, every_packet, IsAfter}
 use Rattle.edit_list.specs.EditLists.{AreEdits}
 use Rattle.network_edit_laws.specs.Kept.{ClassesStay, AllClassesStay, ListsStayUniform}
 use Rattle.edit_list.specs.Prices.{chosen_of}
-use Rattle.network_edit_laws.proofs.KeptEntries.{IsEntry, IsForClass, entry_was, entry_stays}
+use Rattle.network_edit_laws.proofs.KeptEntries.{IsEntry, entry_was, entry_stays}
 use Rattle.network_edit_laws.proofs.SameServices.{same_cuts, same_service_leaves}
 
 -- marks that split the same prefixes give the same leaves

@@ -9,22 +9,22 @@ use Rattle.std.proofs.lemmas.Bool.Decides.{eqb_tells}
 use Rattle.std.proofs.lemmas.List.Elements.{Contains-append_left, Contains-append_right, Contains-append_cases}
 use Rattle.arc_base.proofs.Items.{Contains-head, Contains-tail, Contains-cases, Contains-none, Contains-piece, from_piece}
 use Rattle.net_model.specs.declared.lists.PacketEntry.{PacketEntry}
-use Rattle.net_model.specs.declared.lists.PacketList.{PacketList}
 use Rattle.net_model.specs.declared.policies.Class.{Class}
 use Rattle.net_model.specs.declared.policies.Document.{Document}
 use Rattle.net_model.specs.declared.policies.Policy.{Policy}
 use Rattle.net_model.specs.declared.rows.Network.{Network}
 use Rattle.net_model.specs.declared.services.Service.{Service}
-use Rattle.net_model.specs.Services.{whole_service, IsServiceInside}
+use Rattle.net_model.specs.Services.{whole_service}
 use Rattle.net_model.proofs.ServiceRanges.{bounds, serve}
 use Rattle.traffic_classes.specs.Classes.{service_marks, marks_of, whole_protocol}
 use Rattle.traffic_classes.specs.ServiceLeaves.{IsCut, IsServiceLeaf, AreServiceLeaves}
 use Rattle.traffic_classes.proofs.ServiceCuts.{ends_or_alike, ends_part, ends_inside, inside_ends}
+use Rattle.traffic_classes.proofs.Uniform.{entry_services}
 use Rattle.edit_list.specs.declared.edit_kinds.Edit.{Edit}
-use Rattle.edit_list.specs.After.{class_entry, every_packet, IsAfter}
+use Rattle.edit_list.specs.After.{IsAfter}
 use Rattle.edit_list.specs.EditLists.{AreEdits}
 use Rattle.edit_list.specs.Prices.{chosen_of}
-use Rattle.network_edit_laws.proofs.KeptEntries.{IsEntry, IsForClass, entry_was, entry_stays}
+use Rattle.network_edit_laws.proofs.KeptEntries.{IsEntry, entry_was, entry_stays}
 
 -- marks that cut the same ranges give the same leaves
 module _ (marks others : List Service) (same : (s : Service) → IsCut marks s ↔ IsCut others s) where
@@ -227,9 +227,6 @@ around_high s inside = record {
 -- the range is the service of an entry, or of a policy
 abbrev IsSaid : Network → List Policy → Service → Type 0
 IsSaid net policies s = ((e : PacketEntry) × IsEntry net e × (e.service ≡ s)) ⊎ ((p : Policy) × Contains policies p × (p.service ≡ s))
-
-abbrev entry_services : PacketList → List Service
-entry_services l = flat_map (λ (e : PacketEntry). marks_of e.service) l.entries
 
 module _ (net : Network) (policies : List Policy) where
   abbrev marks : List Service

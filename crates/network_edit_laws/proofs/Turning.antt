@@ -23,10 +23,10 @@ use Rattle.edit_list.specs.After.{exact_entry, opposite_packet_entry, opposite_r
 use Rattle.network_edit_laws.specs.Laws.{ClassesTurn, OthersStay, PrefixesTurn, OtherPrefixesStay}
 
 -- the answer of the entry that is found
-abbrev packet_answer : Option PacketEntry → Bool
+abbrev pub packet_answer : Option PacketEntry → Bool
 packet_answer o = option_map_or (λ (e : PacketEntry). e.permit) o false
 
-abbrev route_answer : Option RouteEntry → Bool
+abbrev pub route_answer : Option RouteEntry → Bool
 route_answer o = option_map_or (λ (e : RouteEntry). e.permit) o false
 
 packet_hit : (e : PacketEntry) (b : Bool) (o : Option PacketEntry) → b ≡ true → packet_answer (cond b (Some e) o) ≡ e.permit

@@ -2,7 +2,7 @@
 use Rattle.std.proofs.Common.{◌≡◌, ℕ, zero, suc, ◌≤◌, ◌+◌, ◌↔◌, ◌==◌, ◌⊎◌, inl, inr, Bool, true, false, List, [], ◌∷◌, length, map, sum_by, refl, sym, ◌∙◌, ap, subst, arith}
 use Rattle.std.specs.Prelude.{Contains, All, if◌then◌else◌}
 use Rattle.std.specs.List.{AllZip}
-use Rattle.std.proofs.lemmas.List.{length-map, length-append}
+use Rattle.std.proofs.lemmas.List.{length-map}
 use Rattle.std.proofs.lemmas.List.Elements.{All-nil, All-cons, All-head, All-tail}
 use Rattle.std.proofs.lemmas.List.Sums.{sum_by-append, sum_by-cons}
 use Rattle.arc_base.proofs.Items.{Contains-head, Contains-tail}
@@ -23,6 +23,7 @@ use Rattle.condition_formula.specs.Lists.{upto}
 use Rattle.condition_formula.specs.Prices.{share, price}
 use Rattle.condition_formula.proofs.Joined as joined
 use Rattle.condition_formula.proofs.Within as within
+use Rattle.condition_formula.proofs.Distinct.{length-upto}
 use Rattle.edit_list.specs.declared.edit_kinds.Edit.{Edit}
 use Rattle.edit_list.specs.Prices.{chosen_of, weight, price_of_flags}
 use Rattle.policy_encode.specs.Laws.{IsEdited, QuestionsMirrorNetworks, QuestionsArePolicies, ModelsAreRepairs, OneModelServes, IsSearchable, FormulasAreSearchable}
@@ -137,10 +138,6 @@ one_model_serves net doc list most formula tops flags after is ed meets =
       satisfies = subst (λ (f : Formula). Satisfies one.assignment f) (sym is.formula_is) one.satisfies;
       keeps = λ bound low high. subst (λ (t : List Lit). formulas.KeepsBound one.assignment t bound) (sym is.tops_are) (one.keeps bound (subst (λ n. n ≤ bound) (sym costs) low) high);
     }
-
-length-upto : (n : ℕ) → length (upto n) ≡ n
-length-upto zero = refl
-length-upto (suc n) = length-append (upto n) (n ∷ []) ∙ omega (arith, length-upto n)
 
 none_or_each : (b : Bool) (f : ℕ → Lit) (most : ℕ) → (length (if b then [] else map f (upto (most + 1))) ≡ 0) ⊎ (length (if b then [] else map f (upto (most + 1))) ≡ most + 1)
 none_or_each true f most = inl refl

@@ -4,7 +4,7 @@ use Rattle.std.proofs.Common.{None, List, [], ◌∷◌, ◌++◌, length, get_o
 use Rattle.std.specs.Prelude.{All, slice_get, if◌then◌else◌}
 use Rattle.std.specs.List.{flat_map, list_any, AllZip}
 use Rattle.std.specs.Option.{option_map_or}
-use Rattle.std.proofs.lemmas.List.{take_more, length-append, get_or_default}
+use Rattle.std.proofs.lemmas.List.{length-append, get_or_default}
 use Rattle.std.proofs.lemmas.List.Elements.{All-nil, All-cons}
 use Rattle.std.proofs.lemmas.Option.{same_Some}
 use Rattle.arc_base.specs.declared.prefix.Prefix.{Prefix}
@@ -26,6 +26,7 @@ use Rattle.condition_formula.specs.declared.condition.ClassEnds.{ClassEnds}
 use Rattle.condition_formula.specs.Limits.{IsSmallNet}
 use Rattle.edit_list.specs.declared.edit_kinds.Edit.{Edit}
 use Rattle.arc_base.specs.Numbered.{placed}
+use Rattle.arc_base.proofs.Zips.{AllZip-length}
 use Rattle.edit_list.proofs.Placing.{placed_length, placed_at}
 use Rattle.policy_encode.specs.Questions.{is_able, is_never, arc_over, able_arcs, link_arcs, arcs_to, IsQuestion, AreConditions}
 
@@ -65,19 +66,6 @@ pub links_all : (net : Network) (list : List Edit) (to : Prefix) (classes : List
 links_all net list to classes now i told is yes_told past was =
     pieces_all (link_arcs net list to classes) now (placed net.links) i (omega (arith, past, placed_length net.links)) was ∙
     sym (ap (λ b. if b then flat_map (link_arcs net list to classes) (placed net.links) else []) (sym is ∙ yes_told))
-
-pub zip_push : {X Y : Type 0} (R : X → Y → Type 0) (xs : List X) (ys : List Y) (x : X) (y : Y) → AllZip R xs ys → R x y → AllZip R (xs ++ x ∷ []) (ys ++ y ∷ [])
-zip_push R [] [] x y are one = (one, tt)
-zip_push R [] (z ∷ ys) x y are one = absurd are
-zip_push R (z ∷ xs) [] x y are one = absurd are
-zip_push R (z ∷ xs) (w ∷ ys) x y are one = (are.0, zip_push R xs ys x y are.1 one)
-
--- one policy more, and its question
-pub zip_more : {X Y : Type 0} (R : X → Y → Type 0) (xs : List X) (ys next : List Y) (i : ℕ) (x : X) (y : Y) → i < length xs → x ≡ get_or xs i x →
-    AllZip R (take i xs) ys → R x y → next ≡ ys ++ y ∷ [] → AllZip R (take (i + 1) xs) next
-zip_more {X} {Y} R xs ys next i x y within is are one grown =
-    subst (λ (l : List Y). AllZip R (take (i + 1) xs) l) (sym grown)
-    (subst (λ (l : List X). AllZip R l (ys ++ y ∷ [])) (ap (λ (z : X). take i xs ++ z ∷ []) is ∙ sym (take_more xs i x within)) (zip_push R (take i xs) ys x y are one))
 
 -- the interface at a place that holds the prefix has the row that is read there
 pub host_row : (net : Network) (p : Prefix) (place : ℕ) (row : FaceRow) → IsHostOf net p place → slice_get net.faces place ≡ Some row → LiesInHostOf p row
@@ -132,16 +120,10 @@ all_few net policies (p ∷ ps) list (q ∷ qs) few are =
     (subst (λ (x : Question). length x.arcs ≤ 65536) (sym are.0.is) (arcs_few net list are.0.to are.0.classes (is_told net are.0.to) few))
     (all_few net policies ps list qs few are.1)
 
-same_length : {X Y : Type 0} (R : X → Y → Type 0) (xs : List X) (ys : List Y) → AllZip R xs ys → length xs ≡ length ys
-same_length R [] [] are = refl
-same_length R [] (y ∷ ys) are = absurd are
-same_length R (x ∷ xs) [] are = absurd are
-same_length R (x ∷ xs) (y ∷ ys) are = omega (arith, same_length R xs ys are.1)
-
 pub small_net : (net : Network) (doc : Document) (list : List Edit) (conditions : ConditionNet) → IsValid net → length doc.policies ≤ 256 →
     AreConditions net doc list conditions → IsSmallNet conditions
 small_net net doc list conditions valid few are =
-    let many = same_length (IsQuestion net doc.policies list) doc.policies conditions.questions are.questions in
+    let many = AllZip-length (IsQuestion net doc.policies list) doc.policies conditions.questions are.questions in
     record {
       nodes = omega (arith, are.nodes, valid.few_routers);
       arcs = all_few net doc.policies doc.policies list conditions.questions valid.few_links are.questions;

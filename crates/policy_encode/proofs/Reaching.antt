@@ -3,7 +3,7 @@ use Rattle.std.proofs.Common.{◌≡◌, ◌≢◌, ℕ, ◌+◌, ◌<◌, inl, 
 use Rattle.std.specs.Prelude.{Contains, AllPairs, All, slice_get}
 use Rattle.std.specs.List.{flat_map, range_with_len}
 use Rattle.std.specs.List.Sorted.{IsStrictlyIncreasing}
-use Rattle.std.proofs.lemmas.Bool.{false≢true, cases_eq}
+use Rattle.std.proofs.lemmas.Bool.{false≢true, cases_eq, false_from_ne_true, true_from_ne_false}
 use Rattle.std.proofs.lemmas.List.{length-map, get_or-map}
 use Rattle.std.proofs.lemmas.List.Elements.{All-contains, All-map, All-nil}
 use Rattle.std.proofs.lemmas.List.FromFn.{length-map-range_with_len, get_or-map-range_with_len}
@@ -24,7 +24,7 @@ use Rattle.net_model.specs.declared.verdicts.LinkPath.{LinkPath}
 use Rattle.net_model.specs.Packets.{IsOfClass, LiesIn, first_packet}
 use Rattle.net_model.specs.Routing.{Arc, IsArc, tail_router, head_router}
 use Rattle.net_model.specs.Forwarding.{Ends, AreEnds, Enters, Leaves, source_router, target_router}
-use Rattle.net_model.specs.Policies.{Reaches, MeetsAs}
+use Rattle.net_model.specs.Policies.{MeetsAs}
 use Rattle.net_model.specs.Policies as policies
 use Rattle.net_model.specs.Validity.{IsValid}
 use Rattle.net_model.specs.Witnesses.{IsPath, Path, links_of, LeavesSide, IsRightPaths, IsRightCut}
@@ -53,14 +53,6 @@ rising_numbers links pairs = λ k low.
     let here = get_or-map (λ (l : Link). l.0) links k d 0 (omega (arith, long)) in
     let next = get_or-map (λ (l : Link). l.0) links (k + 1) d 0 long in
     omega (arith, here, next, pairs k (k + 1) d (omega arith) long)
-
-off_from : (b : Bool) → (b ≡ true → ⊥) → b ≡ false
-off_from true h = absurd (h refl)
-off_from false h = refl
-
-is_on : (b : Bool) → (b ≡ false → ⊥) → b ≡ true
-is_on true h = refl
-is_on false h = absurd (h refl)
 
 link_is : (l : ℕ) (link : Link) → l ≡ link.0 → ◌≡◌ {A = Link} (record { 0 = l }) link
 link_is l link same = let link_of : ℕ → Link = λ n. record { 0 = n } in ap link_of same
@@ -140,8 +132,10 @@ module _ (net : Network) (valid : IsValid net) (ends : Ends) (whole : Class) (ar
       passes j low =
           let r = reads j low in
           record {
-            enter = is_on (comes_true chosen (ends_of q j).enter) (λ off. denied r.0 (parts j r.0 r.1) (λ p of_p enters. absurd (false≢true (sym off ∙ (m.enter j r.0 r.1 p of_p).0 enters))));
-            leave = is_on (comes_true chosen (ends_of q j).leave) (λ off. denied r.0 (parts j r.0 r.1) (λ p of_p enters leaves. false≢true (sym off ∙ (m.leave j r.0 r.1 p of_p).0 leaves)));
+            enter = true_from_ne_false (comes_true chosen (ends_of q j).enter)
+                (λ off. denied r.0 (parts j r.0 r.1) (λ p of_p enters. absurd (false≢true (sym off ∙ (m.enter j r.0 r.1 p of_p).0 enters))));
+            leave = true_from_ne_false (comes_true chosen (ends_of q j).leave)
+                (λ off. denied r.0 (parts j r.0 r.1) (λ p of_p enters leaves. false≢true (sym off ∙ (m.leave j r.0 r.1 p of_p).0 leaves)));
           }
 
       clear_of : q.source ≢ q.target → (j : ℕ) → j < length q.classes → (ca : ConditionArc) → Contains q.arcs ca → IsTrue (is_routed chosen ca) → IsClearArc chosen j ca
@@ -191,7 +185,8 @@ module _ (net : Network) (valid : IsValid net) (ends : Ends) (whole : Class) (ar
             let one : Contains (routed_arcs chosen q) (bare shows.ca) = Contains-map bare (filter (is_routed chosen) q.arcs) shows.ca
             (Contains-filter (is_routed chosen) q.arcs shows.ca shows.one shows.routed) in
             let inside : cut.side shows.ca.tail ≡ true = ap cut.side shows.is_mirror.tail ∙ sym (at_router (tail_router arc) ns.0) ∙ leaves.tail in
-            let outside : cut.side shows.ca.head ≡ false = off_from (cut.side shows.ca.head) (λ on. leaves.head (at_router (head_router arc) ns.1 ∙ ap cut.side (sym shows.is_mirror.head) ∙ on)) in
+            let outside : cut.side shows.ca.head ≡ false = false_from_ne_true (cut.side shows.ca.head)
+            (λ on. leaves.head (at_router (head_router arc) ns.1 ∙ ap cut.side (sym shows.is_mirror.head) ∙ on)) in
             subst (λ (k : Link). Contains cut.links k) (sym (link_is l.0 shows.ca.link (sym of_link ∙ sym shows.is_mirror.link)) ∙ link_is l.0 l refl)
             (cut.left_over.each (bare shows.ca) one (record { from_inside = inside; to_outside = outside }))
 

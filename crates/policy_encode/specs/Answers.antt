@@ -1,7 +1,6 @@
 -- The conditions of a network: its own answers on sessions, routes and packets, each turned by the
 -- edit that acts on it.
-use Rattle.std.specs.Prelude.{Bool, true, false, Option, Some, None, List, slice_get}
-use Rattle.std.specs.Prelude.{if◌then◌else◌}
+use Rattle.std.specs.Prelude.{Bool, true, false, Option, Some, None, List, slice_get, if◌then◌else◌}
 use Rattle.std.specs.Option.{option_map_or}
 use Rattle.arc_base.specs.declared.place.Face.{Face}
 use Rattle.arc_base.specs.declared.place.ListId.{ListId}

@@ -1,9 +1,8 @@
 //! The conditions for sessions, routes and packets.
 ghost use Rattle.edit_list.specs.declared.edit_kinds.Edit.{Edit as AnyEdit};
-ghost use Rattle.policy_encode.specs.Answers.{session_condition, route_answer};
-ghost use Rattle.policy_encode.specs.Answers.{filter_condition, route_condition, packet_answer};
-ghost use Rattle.policy_encode.specs.Answers.{list_condition, inbound_condition};
-ghost use Rattle.policy_encode.specs.Answers.{outbound_condition, arc_lists, class_ends};
+ghost use Rattle.policy_encode.specs.Answers.{session_condition, packet_answer, outbound_condition};
+ghost use Rattle.policy_encode.specs.Answers.{filter_condition, route_condition, inbound_condition};
+ghost use Rattle.policy_encode.specs.Answers.{route_answer, list_condition, arc_lists, class_ends};
 ghost use Rattle.policy_encode.specs.Finding.{IsIndexOf};
 ghost use Rattle.std.specs.Option.{option_copied};
 ghost use Rattle.std.specs.Prelude.{◌≡◌, ◌<◌, ◌^◌, List, length};

@@ -1,6 +1,6 @@
 -- Texts that grow at their end, piece by piece.
-use Rattle.std.proofs.Common.{◌≡◌, ℕ, zero, suc, ◌+◌, ◌<◌, Bool, true, false, cond, List, [], ◌∷◌, ◌++◌, length, get_or, drop, refl, sym, ap, ◌∙◌, arith, append_assoc, append-nil, add-one, drop-cons}
-use Rattle.std.proofs.lemmas.List.{get_or-drop}
+use Rattle.std.proofs.Common.{◌≡◌, ℕ, zero, suc, ◌+◌, ◌<◌, Bool, true, false, cond, List, [], ◌∷◌, ◌++◌, length, get_or, drop, refl, sym, ap, ◌∙◌, arith, append_assoc, append-nil, add-one}
+use Rattle.std.proofs.lemmas.List.{get_or-drop, drop_more}
 use Rattle.net_model.specs.declared.rows.RouterRow.{RouterRow}
 use Rattle.policy_report.specs.Lines.{after_spaces, line}
 use Rattle.policy_report.specs.Reports.{router_side_words}
@@ -9,9 +9,6 @@ use Rattle.policy_report.specs.Reports.{router_side_words}
 pub one_more : (target text after piece rest whole : List ℕ) → text ++ whole ≡ target → whole ≡ piece ++ rest → after ≡ text ++ piece → after ++ rest ≡ target
 one_more target text after piece rest whole before split pushed =
     ap (λ t. t ++ rest) pushed ∙ append_assoc text piece rest ∙ ap (λ t. text ++ t) (sym split) ∙ before
-
-pub drop_next : {A : Type 0} (xs : List A) (i : ℕ) (d : A) → i < length xs → drop i xs ≡ get_or xs i d ∷ drop (i + 1) xs
-drop_next xs i d within = rw add-one (drop-cons xs i d within)
 
 no_flags : (routers : List RouterRow) → router_side_words routers [] ≡ []
 no_flags [] = refl
@@ -37,7 +34,7 @@ pub side_next : (routers : List RouterRow) (side : List Bool) (i : ℕ) (d : Rou
     ≡ cond (get_or side i false) (32 ∷ (get_or routers i d).name) [] ++ after_spaces (router_side_words (drop (i + 1) routers) (drop (i + 1) side))
 side_next routers side i d within =
     let at : get_or (drop i side) 0 false ≡ get_or side i false = get_or-drop i side 0 false ∙ ap (λ k. get_or side k false) (omega arith) in
-    ap (λ t. after_spaces (router_side_words t (drop i side))) (drop_next routers i d within)
+    ap (λ t. after_spaces (router_side_words t (drop i side))) (drop_more routers i d within)
     ∙ side_first (get_or routers i d) (drop (i + 1) routers) (drop i side)
     ∙ ap (λ b. cond b (32 ∷ (get_or routers i d).name) [] ++ after_spaces (router_side_words (drop (i + 1) routers) (drop 1 (drop i side)))) at
     ∙ ap (λ t. cond (get_or side i false) (32 ∷ (get_or routers i d).name) [] ++ after_spaces (router_side_words (drop (i + 1) routers) t)) (drop_one i side)

@@ -20,15 +20,12 @@ use Rattle.policy_report.proofs.Blocks.{Makes, MakeAll, with_item, added}
 use Rattle.policy_report.proofs.Counted.{first_item, no_items}
 use Rattle.policy_report.proofs.LineWords.{closed_text, path_text, closed_words, path_words, walk_words, denied_words, cut_words, side_line_words}
 use Rattle.policy_report.proofs.LineWords.{refused_words, IsSide, are_closed_words, are_path_words, are_walk_words, are_denied_words, are_cut_words, are_side_line_words, are_refused_words}
-use Rattle.policy_report.proofs.Spaced.{words_read}
+use Rattle.policy_report.proofs.Spaced.{words_read, heads}
 use Rattle.policy_report.proofs.Spelled.{closed_read, path_read, walk_read, denied_read, cut_read, side_line_read, refused_read}
 
 -- the line is read as a part of the draft, and what it makes is left to the other lines
 abbrev pub Grows : Network → Draft → Verdict → List ℕ → List (List ℕ) → Type 0
 Grows net draft v t f = (block : Block) × (grown net draft (line_words t) ≡ Some block) × Makes net block v f
-
-heads : (t u : List ℕ) (f g : List (List ℕ)) → t ∷ f ≡ u ∷ g → (t ≡ u) × (f ≡ g)
-heads t u f g e = (cc, cc)
 
 -- a line of an item is read as that item
 items_grow : (net : Network) (v : Verdict) {X : Type 0} (verdict_of : List X → Verdict) (draft_of : ℕ → List X → Draft) (text : X → List ℕ) (P : X → Type 0) →

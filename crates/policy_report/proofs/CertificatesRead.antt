@@ -22,7 +22,7 @@ use Rattle.proof_log.specs.Texts.{log_text}
 use Rattle.policy_report.specs.declared.answers.Answer.TheVariants as replies
 use Rattle.policy_report.specs.declared.got.Got.{Got}
 use Rattle.policy_report.specs.declared.got.Got.TheVariants as gots
-use Rattle.policy_report.specs.declared.got.Got.TheVariants.{More, Head, End}
+use Rattle.policy_report.specs.declared.got.Got.TheVariants.{More, Head}
 use Rattle.policy_report.specs.declared.got.CertFault.{CertFault}
 use Rattle.policy_report.specs.declared.got.CertForm.TheVariants.{Repaired, NoRepair}
 use Rattle.policy_report.specs.declared.stages.Stage.TheVariants as stages

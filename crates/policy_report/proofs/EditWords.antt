@@ -1,5 +1,5 @@
 -- No word of an edit's text has a space or a control byte in it.
-use Rattle.std.proofs.Common.{◌≡◌, ℕ, ◌^◌, ◌<◌, ◌==◌, inl, inr, Bool, true, false, cond, List, [], ◌∷◌, ◌++◌, refl, sym, subst, arith, codes, All, Option, Some, None, IsTrue, find}
+use Rattle.std.proofs.Common.{◌≡◌, ℕ, ◌^◌, ◌<◌, ◌==◌, inl, inr, Bool, true, false, cond, List, [], ◌∷◌, refl, sym, subst, arith, codes, All, Option, Some, None, IsTrue, find}
 use Rattle.std.specs.Prelude.{Contains, slice_get}
 use Rattle.std.specs.Char.{is_ascii_digit}
 use Rattle.std.specs.Option.{option_map_or}

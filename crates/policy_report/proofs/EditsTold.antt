@@ -33,7 +33,7 @@ use Rattle.edit_list.proofs.EditsApart.{all_different}
 use Rattle.edit_list.proofs.EditsFrom.{IsFrom, edits_from}
 use Rattle.policy_report.proofs.EditWords.{at_place, found_passes, are_edit_words}
 use Rattle.policy_report.proofs.ServiceParts.{lone_class_read}
-use Rattle.policy_report.proofs.Spaced.{words_read}
+use Rattle.policy_report.proofs.Spaced.{words_read, heads}
 
 -- two rows that are not apart stand at one place
 same_place : {X : Type 0} (R : X → X → Type 0) (xs : List X) (i j : ℕ) (x y : X) → AllPairs R xs → slice_get xs i ≡ Some x → slice_get xs j ≡ Some y → ¬ R x y → ¬ R y x → i ≡ j
@@ -47,10 +47,6 @@ same_place {X} R xs i j x y apart at_i at_j one two =
     (λ not_after. omega arith)
     (cases_lt j i))
     (cases_lt i j)
-
--- the first words of two lists, and the others
-heads : (v w : List ℕ) (vs ws : List (List ℕ)) → v ∷ vs ≡ w ∷ ws → (v ≡ w) × (vs ≡ ws)
-heads v w vs ws e = (cc, cc)
 
 -- other words are no words of the same text
 other_word : (v w : List ℕ) → bytes_eq v w ≡ false → v ≡ w → bytes_eq w w ≡ true → ⊥

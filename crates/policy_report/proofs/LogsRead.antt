@@ -22,6 +22,7 @@ use Rattle.policy_report.specs.Steps.{Step, next_line, logged, proving, goes}
 use Rattle.policy_report.specs.Recertifying.{Told, told_answer}
 use Rattle.policy_report.proofs.Ended.{EndsLine, nothing_ends, both_end}
 use Rattle.policy_report.proofs.ReportsRead.{answers_at}
+use Rattle.policy_report.proofs.Spaced.{heads}
 
 -- the lines of steps end
 pub steps_end : (last : ℕ) (told : List steps.Step) → EndsLine (steps_text last told)
@@ -46,9 +47,6 @@ step_is_no_end t s read =
 abbrev got_of : Told → Got
 got_of None = gots.More
 got_of (Some s) = gots.Step s
-
-heads : {X : Type 0} (x y : X) (xs ys : List X) → x ∷ xs ≡ y ∷ ys → (x ≡ y) × (xs ≡ ys)
-heads x y xs ys e = (cc, cc)
 
 module _ (net : Network) (doc : Document) (edits : List Edit) where
   -- a line of the log

@@ -1,6 +1,6 @@
 -- The parts of a line, as they are written and read: counts, links and addresses.
 use Rattle.std.proofs.Common.{◌≡◌, ℕ, ◌+◌, ◌-◌, ◌^◌, ◌<◌, ◌≤◌, ◌&&◌, nat_le, true, if◌then◌else◌, List, [], ◌∷◌}
-use Rattle.std.proofs.Common.{refl, ap, ap₂, sym, subst, ◌∙◌, arith, le-leb, All, Option, Some, None, option_and_then, decimal}
+use Rattle.std.proofs.Common.{refl, ap, ap₂, sym, subst, ◌∙◌, arith, le-leb, All, Some, None, option_and_then, decimal}
 use Rattle.std.specs.Int.{w32, from_be_bytes}
 use Rattle.std.proofs.lemmas.Bool.{and_from, and_parts, leb-true, cond-true}
 use Rattle.std.proofs.lemmas.Option.{same_Some}

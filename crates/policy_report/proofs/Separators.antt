@@ -1,10 +1,10 @@
 -- Texts that a separator cuts in two: where no byte before it is the separator, it is the first, and
 -- what was cut is joined.
 use Rattle.std.proofs.Common.{◌≡◌, ℕ, ◌+◌, ◌^◌, ◌<◌, ◌≤◌, ◌==◌, ◌&&◌, not, nat_lt, Bool, true, false, cond, List, [], ◌∷◌, ◌++◌, length, get_or, take}
-use Rattle.std.proofs.Common.{drop, position, option_map, Option, Some, None, All, refl, sym, ap, ◌∙◌, arith, lt-ltb, eq-eqb, ne_eqb, append_assoc, length-append, drop-cons, add-one}
+use Rattle.std.proofs.Common.{drop, position, option_map, Some, None, All, refl, sym, ap, ◌∙◌, arith, lt-ltb, eq-eqb, ne_eqb, append_assoc, length-append, drop-cons, add-one}
 use Rattle.std.proofs.Common.{take-append-drop, decimal}
 use Rattle.std.specs.List.{position_or_len}
-use Rattle.std.proofs.lemmas.Bool.{and_parts, eqb-true, cond-false, le-ltb}
+use Rattle.std.proofs.lemmas.Bool.{and_parts, eqb-true, cond-false, le-ltb, not-true}
 use Rattle.std.proofs.lemmas.Fmt.{decimal_is_IsNumeral}
 use Rattle.std.proofs.lemmas.List.{take_at, drop_at}
 use Rattle.std.proofs.lemmas.List.Elements.{All-nil, All-cons, All-head, All-tail, All-from_get_or}
@@ -22,15 +22,11 @@ abbrev pub lacks : ℕ → List ℕ → Bool
 lacks byte [] = true
 lacks byte (b ∷ bytes) = not (b == byte) && lacks byte bytes
 
-is_false : (b : Bool) → not b ≡ true → b ≡ false
-is_false true e = sym e
-is_false false e = refl
-
 pub written : (byte : ℕ) (bytes : List ℕ) → lacks byte bytes ≡ true → Lacks byte bytes
 written byte [] e = All-nil (λ b. (b == byte) ≡ false)
 written byte (b ∷ bytes) e =
     let (here, rest) = and_parts _ _ e in
-    All-cons (λ b. (b == byte) ≡ false) b bytes (is_false (b == byte) here) (written byte bytes rest)
+    All-cons (λ b. (b == byte) ≡ false) b bytes (not-true (b == byte) here) (written byte bytes rest)
 
 -- digits lack each byte that is none
 pub decimal_lacks : (byte n : ℕ) → ((b : ℕ) → 48 ≤ b → b ≤ 57 → b ≡ byte → ⊥) → n < 2 ^ 64 → Lacks byte (decimal n)

@@ -1,8 +1,8 @@
 -- Which services a word names.
 use Rattle.std.proofs.Common.{◌≡◌, ◌≢◌, ℕ, ◌+◌, ◌*◌, ◌/◌, ◌%◌, ◌^◌, ◌<◌, ◌≤◌, ◌==◌, ◌&&◌, nat_le, Bool, true, false, cond, if◌then◌else◌, List, [], ◌∷◌}
-use Rattle.std.proofs.Common.{◌++◌, Option, Some, None, option_and_then, decimal, codes, bytes_eq, All, IsTrue, refl, sym, ap, ap₂, subst, ◌∙◌, arith, append_assoc, le-leb, eq-eqb, ne_eqb}
+use Rattle.std.proofs.Common.{◌++◌, Option, Some, None, option_and_then, decimal, codes, bytes_eq, IsTrue, refl, sym, ap, ap₂, subst, ◌∙◌, arith, append_assoc, le-leb, eq-eqb, ne_eqb}
 use Rattle.std.proofs.Math.Nat.{mod-add-div'}
-use Rattle.std.proofs.lemmas.Bool.{and_from, and_parts, cond-true, cond-false, leb-true, eqb-true, false≢true, cases_Bool}
+use Rattle.std.proofs.lemmas.Bool.{and_from, and_parts, cond-true, cond-false, leb-true, false≢true}
 use Rattle.std.proofs.lemmas.Bool.Decides.{nat_tests}
 use Rattle.std.proofs.lemmas.List.Elements.{All-append, All-weaker, All-from_recursion}
 use Rattle.std.proofs.lemmas.Option.{none-some, same_Some}

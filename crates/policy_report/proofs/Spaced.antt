@@ -1,10 +1,11 @@
 -- Lines of words: the words of a line are read back, and a line is its words with one space between them.
 use Rattle.std.proofs.Common.{◌≡◌, ℕ, ◌<◌, ◌==◌, false, List, [], ◌∷◌, ◌++◌, length, refl, ap, sym, ◌∙◌, arith, All, append_assoc, append-nil}
-use Rattle.std.specs.List.{onto_first, join_with_byte}
-use Rattle.std.proofs.lemmas.Bool.{cond-false, ne_eqb}
-use Rattle.std.proofs.lemmas.List.Elements.{All-nil, All-cons, All-append, All-weaker, All-head, All-tail}
+use Rattle.std.specs.List.{join_with_byte}
+use Rattle.std.proofs.lemmas.Bool.{ne_eqb}
+use Rattle.std.proofs.lemmas.List.Elements.{All-nil, All-cons, All-append, All-weaker}
 use Rattle.std.proofs.lemmas.List.Splits.{slice_split_at, slice_split_none, join_with_byte-slice_split}
-use Rattle.arc_base.specs.TextLines.{lines, is_line_feed}
+use Rattle.arc_base.specs.TextLines.{lines}
+use Rattle.proof_log.proofs.Printed.{IsInLine, line_and_rest}
 use Rattle.policy_report.specs.Lines.{after_spaces, line}
 use Rattle.policy_report.specs.Readings.{line_words}
 
@@ -16,6 +17,10 @@ IsWord w = All (λ b. 32 < b) w
 abbrev pub AreWords : List (List ℕ) → Type 0
 AreWords [] = Unit {0}
 AreWords (w ∷ ws) = IsWord w × AreWords ws
+
+-- the firsts of two lists, and the others
+pub heads : {X : Type 0} (x y : X) (xs ys : List X) → x ∷ xs ≡ y ∷ ys → (x ≡ y) × (xs ≡ ys)
+heads x y xs ys e = (cc, cc)
 
 -- words, and others after them
 pub words_append : (vs ws : List (List ℕ)) → AreWords vs → AreWords ws → AreWords (vs ++ ws)
@@ -51,31 +56,18 @@ joined_by_spaces (w ∷ v ∷ ws) = ap (λ text. w ++ 32 ∷ text) (joined_by_sp
 pub line_of_words : (text : List ℕ) (ws : List (List ℕ)) → line_words text ≡ ws → text ≡ joined ws
 line_of_words text ws e = sym (join_with_byte-slice_split 32 text) ∙ ap (join_with_byte 32) e ∙ joined_by_spaces ws
 
--- no byte of it ends a line
-IsInLine : List ℕ → Type 0
-IsInLine bytes = All (λ b. 31 < b) bytes
-
 word_in_line : (w : List ℕ) → IsWord w → IsInLine w
-unfolding IsInLine IsWord
+unfolding IsWord
 word_in_line w h = All-weaker (λ b. 32 < b) (λ b. 31 < b) (λ b k. omega arith) w h
 
 spaced_in_line : (ws : List (List ℕ)) → AreWords ws → IsInLine (after_spaces ws)
-unfolding IsInLine
 spaced_in_line [] h = All-nil (λ b. 31 < b)
 spaced_in_line (w ∷ ws) h =
     All-cons (λ b. 31 < b) 32 (w ++ after_spaces ws) (omega arith) (All-append (λ b. 31 < b) w (after_spaces ws) (word_in_line w h.0) (spaced_in_line ws h.1))
-
-line_and_rest : (text rest : List ℕ) → IsInLine text → lines (text ++ 10 ∷ rest) ≡ text ∷ lines rest
-unfolding IsInLine
-line_and_rest [] rest h = refl
-line_and_rest (b ∷ text) rest h =
-    let here : is_line_feed b ≡ false = ne_eqb b 10 (λ e. omega (arith, All-head (λ b. 31 < b) b text h)) in
-    cond-false (is_line_feed b) ([] ∷ lines (text ++ 10 ∷ rest)) (onto_first b (lines (text ++ 10 ∷ rest))) here ∙
-    ap (onto_first b) (line_and_rest text rest (All-tail (λ b. 31 < b) b text h))
 
 -- a line that is written is the first line of the text
 pub line_first : (first : List ℕ) (ws : List (List ℕ)) (rest : List ℕ) → AreWords (first ∷ ws) → lines (line first ws ++ rest) ≡ joined (first ∷ ws) ∷ lines rest
 line_first first ws rest h =
     let inside : IsInLine (joined (first ∷ ws)) =
-    unfold IsInLine in All-append (λ b. 31 < b) first (after_spaces ws) (word_in_line first h.0) (spaced_in_line ws h.1) in
+    All-append (λ b. 31 < b) first (after_spaces ws) (word_in_line first h.0) (spaced_in_line ws h.1) in
     ap lines (append_assoc (joined (first ∷ ws)) (10 ∷ []) rest) ∙ line_and_rest (joined (first ∷ ws)) rest inside

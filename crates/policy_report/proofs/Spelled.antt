@@ -1,5 +1,5 @@
 -- The lines of a witness, as words: what is written is read back, and what is read is written so.
-use Rattle.std.proofs.Common.{◌≡◌, ℕ, ◌+◌, ◌^◌, ◌<◌, ◌≤◌, ◌==◌, Bool, true, false, if◌then◌else◌, List, [], ◌∷◌, ◌++◌}
+use Rattle.std.proofs.Common.{◌≡◌, ℕ, ◌+◌, ◌<◌, ◌≤◌, ◌==◌, Bool, true, if◌then◌else◌, List, [], ◌∷◌, ◌++◌}
 use Rattle.std.proofs.Common.{length, refl, ap, ap₂, sym, subst, ◌∙◌, arith, append-nil, Option, Some, None, option_and_then, decimal, codes}
 use Rattle.std.proofs.lemmas.Bool.{eqb-true}
 use Rattle.std.proofs.lemmas.Option.{none-some, same_Some}
@@ -12,7 +12,7 @@ use Rattle.net_model.specs.declared.rows.Network.{Network}
 use Rattle.net_model.specs.declared.verdicts.ClassSide.{ClassSide}
 use Rattle.net_model.specs.declared.verdicts.LinkPath.{LinkPath}
 use Rattle.net_model.specs.Validity.{IsValid}
-use Rattle.policy_report.specs.Readings.{after_word, all_links, class_at, side_of, link_of, side_shown, closed_of, path_of, walk_shown}
+use Rattle.policy_report.specs.Readings.{after_word, all_links, class_at, side_of, side_shown, closed_of, path_of, walk_shown}
 use Rattle.policy_report.specs.Readings.{walk_of, class_shown, denied_of, cut_of, side_line_of, packet_at, lone_link, packet_shown, refused_of}
 use Rattle.policy_report.specs.Reports.{class_words, report_packet_words, link_words, router_side_words}
 use Rattle.policy_report.specs.Rereading.{AreLinks}

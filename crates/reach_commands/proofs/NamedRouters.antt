@@ -8,6 +8,7 @@ use Rattle.arc_base.specs.declared.refusal.Kind.TheVariants.{UnknownRouter}
 use Rattle.net_model.specs.declared.rows.RouterRow.{RouterRow}
 use Rattle.net_model.specs.declared.rows.Network.{Network}
 use Rattle.net_model.specs.Validity.{IsValid}
+use Rattle.net_rules.proofs.Distinct.{item_at}
 use Rattle.run_files.specs.declared.outcome.Stop.{Stop}
 use Rattle.run_files.specs.declared.outcome.Stop.TheVariants as stops
 use Rattle.run_files.specs.Refusals.{refusal_of}
@@ -99,18 +100,13 @@ known_more net names place router next before k name below at =
           (router, subst (λ (o : Option (List ℕ)). IfSome o (λ n. IsNamed net n router)) (ap (λ (i : ℕ). slice_get names i) (sym same) ∙ at) next)
     ]
 
-some_at : {X : Type 0} (xs : List X) (k : ℕ) → k < length xs → (x : X) × (slice_get xs k ≡ Some x)
-some_at [] k within = absurd (omega (arith, within))
-some_at (x ∷ xs) zero within = (x, refl)
-some_at (x ∷ xs) (suc k) within = some_at xs k (omega (arith, within))
-
 -- the refusal of a name that no router has
 pub unknown_refused : (document : List ℕ) (net : Network) (names : List (List ℕ)) (place : ℕ) (stop : Stop) → place < length names → IfSome (slice_get names place) (NamesNoRouter net) →
     ((k : ℕ) (name : List ℕ) → k < place → slice_get names k ≡ Some name → (r : Router) × IsNamed net name r) →
     (stop ≡ stops.Memory) ⊎ (stop ≡ stops.Refused (refusal_of document (place + 1) UnknownRouter)) → FindsRouters document net names (Err stop)
 unknown_refused document net names place stop within unknown before (inl memory) = subst (λ (s : Stop). FindsRouters document net names (Err s)) (sym memory) tt
 unknown_refused document net names place stop within unknown before (inr is) =
-    let here : (x : List ℕ) × (slice_get names place ≡ Some x) = some_at names place within in
+    let here : (x : List ℕ) × (slice_get names place ≡ Some x) = item_at names place within in
     let first : IsFirstUnknown net names place = record {
       name = here.0;
       at_place = here.1;

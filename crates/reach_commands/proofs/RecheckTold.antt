@@ -1,8 +1,8 @@
 -- What the status of `recheck` says.
 use Rattle.std.proofs.Common.{◌≡◌, ◌⊎◌, zero, suc, inl, inr, Bool, true, false, List, [], ◌∷◌, refl, sym, ◌∙◌, ap, arith}
-use Rattle.std.specs.Prelude.{if◌then◌else◌, None, All, ◌&&◌}
+use Rattle.std.specs.Prelude.{if◌then◌else◌, None, All}
 use Rattle.std.specs.List.{AllZip, list_all}
-use Rattle.std.proofs.lemmas.Bool.{false≢true, and_parts}
+use Rattle.std.proofs.lemmas.Bool.{false≢true, and_from, and_parts}
 use Rattle.arc_outside.specs.Files.{Files}
 use Rattle.net_model.specs.declared.policies.Document.{Document}
 use Rattle.net_model.specs.declared.policies.Policy.{Policy}
@@ -39,15 +39,12 @@ met_if net valid (policy ∷ policies) (r ∷ rs) right all zero d within =
 met_if net valid (policy ∷ policies) (r ∷ rs) right all (suc k) d within =
     met_if net valid policies rs right.1 (and_parts (yes r) (list_all yes rs) all).1 k d (omega (arith, within))
 
-both_true : (a b : Bool) → a ≡ true → b ≡ true → (a && b) ≡ true
-both_true a b e f = ap (λ (x : Bool). x && b) e ∙ f
-
 yes_if : (net : Network) → IsValid net → (policies : List Policy) (rs : List Rechecked) → AllZip (IsRightOn net) policies rs → All (Meets net) policies → list_all yes rs ≡ true
 yes_if net valid [] [] right met = refl
 yes_if net valid [] (r ∷ rs) right met = absurd right
 yes_if net valid (policy ∷ policies) [] right met = absurd right
 yes_if net valid (policy ∷ policies) (r ∷ rs) right met =
-    both_true (yes r) (list_all yes rs) ((right_verdicts_decide net valid policy r.verdict right.0).1 (met 0 policy (omega arith)))
+    and_from (yes r) (list_all yes rs) ((right_verdicts_decide net valid policy r.verdict right.0).1 (met 0 policy (omega arith)))
     (yes_if net valid policies rs right.1 (λ k d within. met (suc k) d (omega (arith, within))))
 
 module _ (words : RecheckWords) (files : Files) where

@@ -1,8 +1,9 @@
 -- The blocks of a certificate are passed exactly if their verdicts are right.
-use Rattle.std.proofs.Common.{◌≡◌, ℕ, ◌+◌, ◌==◌, Bool, true, false, inl, inr, List, [], ◌∷◌, ◌++◌, length, map, refl, subst, arith, eq-eqb}
-use Rattle.std.specs.Prelude.{MatchBool, Result, Ok}
+use Rattle.std.proofs.Common.{◌≡◌, ℕ, ◌+◌, ◌==◌, Bool, true, false, inl, inr, List, [], ◌∷◌, ◌++◌, length, map, refl, arith, eq-eqb}
+use Rattle.std.specs.Prelude.{Result, Ok}
 use Rattle.std.specs.List.{AllZip}
 use Rattle.std.proofs.lemmas.Bool.Decides.{eqb_tells}
+use Rattle.std.proofs.lemmas.Bool.{MatchBool-at_false, MatchBool-at_true}
 use Rattle.arc_base.specs.declared.certificate.CertKind.TheVariants as kinds
 use Rattle.net_model.specs.declared.policies.Policy.{Policy}
 use Rattle.net_model.specs.declared.rows.Network.{Network}
@@ -22,13 +23,6 @@ use Rattle.arc_repair.specs.Claims.{IsRightYes}
 use Rattle.repair_check.specs.Outcomes.{ReaderAnswers, IsBlocksOutcome, IsLogOutcome}
 use Rattle.repair_check.proofs.Logs.{AcceptsIf, Passes, log_exact, never, steps_told}
 
--- what follows if not all policies are judged, and if all are
-not_all : (b : Bool) (P Q : Type 0) → b ≡ false → MatchBool b P Q → Q
-not_all b P Q e h = subst (λ (x : Bool). MatchBool x P Q) e h
-
-all_judged : (b : Bool) (P Q : Type 0) → b ≡ true → MatchBool b P Q → P
-all_judged b P Q e h = subst (λ (x : Bool). MatchBool x P Q) e h
-
 differ : (m n : ℕ) → (m ≡ n → ⊥) → (m == n) ≡ false
 differ m n h =
     elim (eqb_tells m n) [
@@ -43,7 +37,7 @@ module _ (net now : Network) (policies : List Policy) (needs : Bool) (known : Kn
   passed judged first number [] last rest unfinished h = (number, h)
   passed judged first number (line ∷ ls) last rest unfinished h =
       passed judged first (number + 1) ls last rest unfinished
-      (not_all (judged == length policies) (IsLogOutcome needs known (number + 1) ((more ls ++ last ∷ []) ++ rest) o)
+      (MatchBool-at_false (IsLogOutcome needs known (number + 1) ((more ls ++ last ∷ []) ++ rest) o)
       (IsBlocksOutcome now policies needs known judged first (number + 1) ((more ls ++ last ∷ []) ++ rest) o) unfinished h)
 
   pub blocks_exact : (judged first number : ℕ) (vs : List verdicts.Verdict) → judged + length vs ≡ length policies →
@@ -53,7 +47,7 @@ module _ (net now : Network) (policies : List Policy) (needs : Bool) (known : Kn
       let all : (judged == length policies) ≡ true = eq-eqb judged (length policies) (omega (arith, whole)) in
       let Log : Type 0 = IsLogOutcome needs known (number + 1) (map told_answer told ++ Ok End ∷ []) o in
       let log = log_exact needs known (number + 1) told o
-      (all_judged (judged == length policies) Log (IsBlocksOutcome now policies needs known judged first (number + 1) (map told_answer told ++ Ok End ∷ []) o) all h) in
+      (MatchBool-at_true Log (IsBlocksOutcome now policies needs known judged first (number + 1) (map told_answer told ++ Ok End ∷ []) o) all h) in
       (λ e. (tt, log.0 e), λ p. log.1 p.1)
   blocks_exact judged first number (v ∷ vs) whole h =
       let unfinished : (judged == length policies) ≡ false = differ judged (length policies) (λ (e : judged ≡ length policies). omega (arith, whole, e)) in

@@ -1,5 +1,5 @@
 -- The line of the answer, and the formula that is counted there.
-use Rattle.std.proofs.Common.{◌≡◌, ℕ, ◌+◌, ◌≤◌, Bool, false, refl, inl, inr, Option, Some, List, [], ◌∷◌, length, sym, ◌∙◌, ap, subst}
+use Rattle.std.proofs.Common.{◌≡◌, ℕ, ◌+◌, ◌≤◌, Bool, false, refl, inl, inr, Option, Some, List, ◌∷◌, length, sym, ◌∙◌, ap, subst}
 use Rattle.std.specs.Prelude.{Ok, Vec}
 use Rattle.std.specs.declared.alloc.Global.{Global}
 use Rattle.net_model.specs.declared.policies.Document.{Document}
@@ -15,11 +15,10 @@ use Rattle.policy_report.specs.declared.got.Got.TheVariants.{Head, More}
 use Rattle.policy_report.specs.declared.got.CertForm.{CertForm}
 use Rattle.policy_report.specs.declared.got.CertForm.TheVariants.{Repaired, NoRepair}
 use Rattle.std.proofs.lemmas.List.{length-map}
-use Rattle.repair_check.specs.declared.phases.Phase.{Phase}
 use Rattle.repair_check.specs.declared.phases.Phase.TheVariants as phases
 use Rattle.repair_check.specs.Certifies.{CountsBound, HasBound, IsCounted}
 use Rattle.repair_check.specs.Outcomes.{ReaderAnswers, IsEditsOutcome, IsReadyOutcome}
-use Rattle.repair_check.specs.Phases.{Goes, IsAt, IsFaultAt, IsReady, IsReadyWithin}
+use Rattle.repair_check.specs.Phases.{Goes, IsFaultAt, IsReady, IsReadyWithin}
 
 -- an answer names one bound
 bound_of_repair : (price bound other : ℕ) → HasBound other (Repaired price bound) → other ≡ bound
@@ -83,19 +82,3 @@ module _ (net : Network) (doc : Document) (list : List Edit) where
     });
     at = λ all rest e. counted (NoRepair bound) bound all rest (inr refl) (λ few. within) e;
   }
-
-  -- at the end of the text, what was to be counted was counted
-  pub ends_counted : (phase : Phase) (all : ReaderAnswers) → IsAt net doc list all phase [] → IsCounted net doc list all
-  ends_counted phases.Head all e = λ bound counts. absurd (nothing counts.form counts.rest (sym e ∙ counts.begins))
-    where
-      nothing : (form : CertForm) (rest : ReaderAnswers) → [] ≡ Ok More ∷ Ok (Head form) ∷ rest → ⊥
-      nothing form rest k = absurd (cc)
-  ends_counted phases.Answer all e = λ bound counts. absurd (alone counts.form counts.rest (sym e ∙ counts.begins))
-    where
-      alone : (form : CertForm) (rest : ReaderAnswers) → Ok More ∷ [] ≡ Ok More ∷ Ok (Head form) ∷ rest → ⊥
-      alone form rest k = absurd (cc)
-  ends_counted (phases.Edits claim) all h = h
-  ends_counted (phases.Blocks blocks) all h = h
-  ends_counted (phases.Ready checker) all h = h
-  ends_counted (phases.Log needs checker) all h = h
-  ends_counted phases.Ended all h = h

@@ -27,7 +27,7 @@ use Rattle.policy_report.specs.Rereading.{IsReadable, answers, blocks_answers}
 use Rattle.policy_report.specs.Steps.{start as before}
 use Rattle.report_check.specs.declared.outcome.Outcome.{Outcome}
 use Rattle.report_check.proofs.Zipped.{right_places, right_zip}
-use Rattle.arc_repair.specs.Checks.{IsMispriced}
+use Rattle.arc_repair.proofs.ClaimDefects.{not_mispriced}
 use Rattle.arc_repair.specs.Claims.{IsCertificate, IsRightYes, is_above_zero}
 use Rattle.arc_repair.specs.Laws.{CertificatesAreTrue}
 use Rattle.repair_check.specs.Certifies.{CertificatesAreAccepted, CertifiedClaimsAreTrue}
@@ -49,12 +49,6 @@ are_yes [] all = tt
 are_yes (v ∷ vs) all = (all 0 v (omega arith), are_yes vs (λ k d l. all (suc k) d (omega (arith, l))))
 
 module _ (one_after : AfterIsOne) (one_formula : HaveOneFormula) (net : Network) (doc : Document) (list : List edits.Edit) (valid : IsValid net) (countable : IsCountable net) where
-  -- the price of a right claim is right
-  priced : (price bound : ℕ) (flags : List Bool) → price_of_flags doc list flags ≡ price → price ≤ bound → bound ≤ 512 → IsMispriced doc list price bound flags → ⊥
-  priced price bound flags costs affordable few (inl wrong) = wrong costs
-  priced price bound flags costs affordable few (inr (inl above)) = omega (arith, above, affordable)
-  priced price bound flags costs affordable few (inr (inr above)) = omega (arith, above, few)
-
   -- a log that passes for a repair formula passes for an equal one
   passes_same : (needs : Bool) (bound : ℕ) (least : Option ℕ) (formula other : Formula) (tops others : List Lit) (told : List Told) → (formula ≡ other) × (tops ≡ others) →
       Passes needs (start formula least tops) (steps_told told) → Passes needs (start other least others) (steps_told told)
@@ -104,7 +98,7 @@ module _ (one_after : AfterIsOne) (one_formula : HaveOneFormula) (net : Network)
             ]
 
     ended : (number : ℕ) → IsEditsEnd net doc list price bound chosen number (blocks_answers net 0 vs (log_answers told)) o → AcceptsIf o Certified
-    ended number (inl wrong) = (λ e. absurd (never o 2 kinds.Price wrong.1 e), λ p. absurd (priced price bound chosen p.right.costs p.right.affordable p.right.few wrong.0))
+    ended number (inl wrong) = (λ e. absurd (never o 2 kinds.Price wrong.1 e), λ p. absurd (not_mispriced net doc list price bound chosen p.right.costs p.right.affordable p.right.few wrong.0))
     ended number (inr a) = opened number a
 
     repaired_exact : (number : ℕ) →

@@ -1,10 +1,9 @@
--- What a line leads to that a judge takes, and what the end of the text does.
-use Rattle.std.proofs.Common.{◌≡◌, ℕ, ◌+◌, List, [], ◌∷◌, refl, sym, ap, subst}
+-- What a line leads to that a judge takes.
+use Rattle.std.proofs.Common.{◌≡◌, ℕ, ◌+◌, List, ◌∷◌, refl, sym, ap, subst}
 use Rattle.std.specs.Prelude.{Result}
 use Rattle.net_model.specs.declared.policies.Document.{Document}
 use Rattle.net_model.specs.declared.rows.Network.{Network}
 use Rattle.edit_list.specs.declared.edit_kinds.Edit.{Edit}
-use Rattle.edit_list.specs.declared.edit_kinds.EditFault.{EditFault}
 use Rattle.policy_report.specs.declared.got.Got.{Got}
 use Rattle.policy_report.specs.declared.got.CertFault.{CertFault}
 use Rattle.policy_report.specs.declared.reader.Reader.{Reader}
@@ -15,17 +14,12 @@ use Rattle.repair_check.specs.declared.judge.RepairJudge.{RepairJudge}
 use Rattle.repair_check.specs.declared.phases.Next.{Next}
 use Rattle.repair_check.specs.declared.phases.Next.TheVariants.{Line, Done}
 use Rattle.repair_check.specs.declared.phases.Phase.{Phase}
-use Rattle.repair_check.specs.Certifies.{IsCountFault, text_answers}
+use Rattle.repair_check.specs.Certifies.{text_answers}
 use Rattle.repair_check.specs.LineByLine.{HasComeTo, Judges}
 use Rattle.repair_check.specs.Outcomes.{ReaderAnswers}
-use Rattle.repair_check.specs.Phases.{Goes, IsAt, IsFaultAt, IsPhaseOutcome, LeadsTo, Settles}
-use Rattle.repair_check.proofs.Counted.{ends_counted}
+use Rattle.repair_check.specs.Phases.{Goes, IsAt, IsPhaseOutcome, LeadsTo, Settles}
 
 module _ (net : Network) (doc : Document) (list : List Edit) (text : List ℕ) where
-  -- no other line comes
-  pub ended : (judge : RepairJudge) (o : Outcome) → HasComeTo net doc list text [] judge → IsPhaseOutcome net doc list judge.phase judge.number [] o → Judges net doc list text o
-  ended judge o come is = record { outcome = come.outcome o is; counted = ends_counted net doc list judge.phase (text_answers net doc list text) come.at }
-
   module _ (judge : RepairJudge) (line : List ℕ) (rest : List (List ℕ)) (told : Result Got CertFault) (reads : told ≡ (step net doc list (standing judge.reader) line).1)
       (come : HasComeTo net doc list text (line ∷ rest) judge) where
     -- the answers to the lines after it
@@ -64,7 +58,3 @@ module _ (net : Network) (doc : Document) (list : List Edit) (text : List ℕ) w
           outcome = come.outcome o (leads o (settles.outcome behind));
           counted = settles.at (text_answers net doc list text) behind here;
         }
-
-    -- the formula exceeds a limit
-    pub stopped : (fault : EditFault) → IsFaultAt net doc list judge.phase told fault → IsCountFault net doc list (text_answers net doc list text) fault
-    stopped fault there = there (text_answers net doc list text) behind here

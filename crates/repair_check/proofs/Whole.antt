@@ -11,15 +11,12 @@ use Rattle.proof_check.specs.declared.faults.StepFault.{StepFault}
 use Rattle.proof_check.specs.Knowledge.{Knowledge, after, step_fault}
 use Rattle.policy_report.specs.declared.got.Got.TheVariants.{More, Head, Verdict, Edit, Step, End}
 use Rattle.policy_report.specs.declared.got.CertForm.TheVariants.{Report, Repaired, NoRepair}
-use Rattle.policy_report.specs.declared.got.CertFault.{CertFault}
 use Rattle.policy_report.specs.Recertifying.{IsWholeRepair}
 use Rattle.policy_report.specs.Rereading.{IsWhole}
 use Rattle.report_check.specs.declared.outcome.Outcome.TheVariants.{Accepted, Rejected}
+use Rattle.report_check.proofs.Rights.{not_accepted}
 use Rattle.repair_check.specs.Outcomes.{ReaderAnswers, IsAnswerOutcome, IsBlocksOutcome, IsEditsEnd, IsEditsOutcome, IsEndOutcome, IsHeadOutcome, IsLogOutcome, IsReadyOutcome, is_edit_kind, rejected}
 use Rattle.proof_check.specs.Outcomes.{fault_kind}
-
-not_accepted : (fault : CertFault) → Accepted ≡ Rejected fault → ⊥
-not_accepted fault e = absurd (cc)
 
 end_whole : (agrees : Bool) (number : ℕ) (rest : ReaderAnswers) → MatchBool agrees (IsEndOutcome (number + 1) rest Accepted) (Accepted ≡ rejected number kinds.NotRefuted) → IsWhole (Ok End ∷ rest)
 end_whole true number [] h = tt

@@ -1,10 +1,9 @@
 -- The text that is written for a claim, with a log that shows it, is a certificate of the claim.
-use Rattle.std.proofs.Common.{◌≡◌, ◌∙◌, ℕ, ◌<◌, List, [], ◌∷◌, length, map, ap, refl, sym, subst, arith}
+use Rattle.std.proofs.Common.{◌≡◌, ◌∙◌, ◌<◌, List, [], ◌∷◌, length, map, ap, refl, sym, subst, arith}
 use Rattle.std.specs.Prelude.{All, IsTrue, Some}
 use Rattle.std.specs.List.{AllZip}
 use Rattle.std.proofs.lemmas.Bool.{false≢true}
 use Rattle.std.proofs.lemmas.List.Elements.{All-cons, All-head, All-nil, All-tail, All-weaker}
-use Rattle.std.proofs.lemmas.Option.{slice_get_within}
 use Rattle.arc_base.specs.declared.place.Link.{Link}
 use Rattle.net_model.specs.declared.policies.Document.{Document}
 use Rattle.net_model.specs.declared.policies.Class.{Class}
@@ -12,13 +11,11 @@ use Rattle.net_model.specs.declared.policies.Policy.{Policy}
 use Rattle.net_model.specs.declared.policies.PolicyKind.{PolicyKind}
 use Rattle.net_model.specs.declared.policies.PolicyKind.TheVariants.{Blocked, Through, Reach}
 use Rattle.net_model.specs.declared.rows.Network.{Network}
-use Rattle.net_model.specs.declared.verdicts.LinkPath.{LinkPath}
 use Rattle.net_model.specs.declared.verdicts.Verdict as verdicts
 use Rattle.net_model.specs.declared.verdicts.Verdict.TheVariants.{Closed, Paths, Walk, Denied, Cut, Refused}
 use Rattle.net_model.specs.Forwarding.{Ends}
 use Rattle.net_model.specs.Packets.{subject}
-use Rattle.net_model.specs.Routing.{Arc, head_router}
-use Rattle.net_model.specs.Witnesses.{is_yes, IsPath, IsRightFor, IsRightSide, Path, links_of}
+use Rattle.net_model.specs.Witnesses.{is_yes, IsPath, IsRightFor, IsRightSide}
 use Rattle.edit_list.specs.declared.claims.Claim.{Claim}
 use Rattle.edit_list.specs.declared.claims.Claim.TheVariants.{Repaired, NoRepair}
 use Rattle.edit_list.specs.declared.edit_kinds.Edit as edits
@@ -28,16 +25,8 @@ use Rattle.policy_report.specs.Rereading.{AreLinks, MayHaveVerdict, IsReadable, 
 use Rattle.arc_repair.specs.Answers.{ClaimsFew, ShowsFew}
 use Rattle.arc_repair.specs.Claims.{IsCertificate, IsRightClaim, IsRightYes}
 use Rattle.repair_check.specs.Certifies.{WrittenClaimsAreCertified}
+use Rattle.report_check.proofs.Readable.{are_links}
 use Rattle.repair_check.proofs.Logs.{steps_told}
-
--- the links of a path are links of the network
-path_links : (net : Network) (to : _) (u v : ℕ) (arcs : List Arc) → Path net to u arcs v → AreLinks net (links_of arcs)
-path_links net to u v [] is = All-nil (λ l. l.0 < length net.links)
-path_links net to u v (arc ∷ arcs) is =
-    All-cons (λ l. l.0 < length net.links) (record { 0 = arc.link }) (links_of arcs) (slice_get_within net.links arc.link arc.row is.0.link) (path_links net to (head_router arc) v arcs is.3)
-
-links_told : (net : Network) (ends : Ends) (path : LinkPath) → IsPath net ends path → AreLinks net path.links
-links_told net ends path is = subst (AreLinks net) is.links (path_links net ends.to _ _ is.arcs is.leads)
 
 -- a right yes that shows few sides or paths can be written, and is an answer to what the policy asks
 yes_told : (net : Network) (ends : Ends) (kind : PolicyKind) (whole : Class) (v : verdicts.Verdict) → IsTrue (is_yes v) → IsRightFor net ends kind whole v →
@@ -50,7 +39,7 @@ yes_told net ends (Reach k) whole (Closed sides) positive right few = absurd rig
 yes_told net ends Blocked whole (Paths paths) positive right few = absurd right
 yes_told net ends Through whole (Paths paths) positive right few = absurd right
 yes_told net ends (Reach k) whole (Paths paths) positive right few =
-    (tt, (All-weaker (IsPath net ends) (λ p. AreLinks net p.links) (λ p path. links_told net ends p path) paths right.are_paths, omega (arith, few)))
+    (tt, (All-weaker (IsPath net ends) (λ p. AreLinks net p.links) (λ p path. are_links net ends p path) paths right.are_paths, omega (arith, few)))
 yes_told net ends kind whole (Walk class path) positive right few = absurd (false≢true positive)
 yes_told net ends kind whole (Denied class) positive right few = absurd (false≢true positive)
 yes_told net ends kind whole (Cut links side) positive right few = absurd (false≢true positive)
@@ -66,12 +55,12 @@ yes_of (Refused packet link) positive = absurd (false≢true positive)
 
 -- the network after edits has as many links and routers, so what can be written for the one can be written for the other
 module _ (net after : Network) (links : length after.links ≡ length net.links) (routers : length after.routers ≡ length net.routers) where
-  are_links : (ls : List Link) → AreLinks after ls → AreLinks net ls
-  are_links ls are = All-weaker (λ l. l.0 < length after.links) (λ l. l.0 < length net.links) (λ l below. omega (arith, below, links)) ls are
+  told_links : (ls : List Link) → AreLinks after ls → AreLinks net ls
+  told_links ls are = All-weaker (λ l. l.0 < length after.links) (λ l. l.0 < length net.links) (λ l below. omega (arith, below, links)) ls are
 
   told_there : (v : verdicts.Verdict) → IsTrue (is_yes v) → CanBeWritten after v → CanBeWritten net v
   told_there (Closed sides) positive told = (All-weaker (λ s. length s.side ≡ length after.routers) (λ s. length s.side ≡ length net.routers) (λ s each. each ∙ routers) sides told.0, told.1)
-  told_there (Paths paths) positive told = (All-weaker (λ p. AreLinks after p.links) (λ p. AreLinks net p.links) (λ p are. are_links p.links are) paths told.0, told.1)
+  told_there (Paths paths) positive told = (All-weaker (λ p. AreLinks after p.links) (λ p. AreLinks net p.links) (λ p are. told_links p.links are) paths told.0, told.1)
   told_there (Walk class path) positive told = absurd (false≢true positive)
   told_there (Denied class) positive told = absurd (false≢true positive)
   told_there (Cut links side) positive told = absurd (false≢true positive)

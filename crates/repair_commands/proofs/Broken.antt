@@ -1,5 +1,5 @@
 -- A network of files that meets the document is mended by choosing no edits.
-use Rattle.std.proofs.Common.{◌≡◌, ℕ, false, List, [], ◌∷◌, refl, sym, subst}
+use Rattle.std.proofs.Common.{ℕ, false, List, [], ◌∷◌, sym, subst}
 use Rattle.std.specs.Prelude.{All, AllPairs}
 use Rattle.std.specs.List.{AllZip}
 use Rattle.std.proofs.lemmas.List.{length-map}
@@ -16,9 +16,10 @@ use Rattle.net_rules.specs.Rows.{IsRouterRow}
 use Rattle.edit_list.specs.declared.edit_kinds.Edit.{Edit}
 use Rattle.edit_list.specs.After.{IsAfter}
 use Rattle.arc_base.specs.NameForms.{IsNameBefore}
-use Rattle.edit_list.specs.Prices.{chosen_of, none_of}
+use Rattle.edit_list.specs.Prices.{none_of}
 use Rattle.network_edit_laws.proofs.NoEdits.{none_change}
 use Rattle.arc_repair.specs.Repairs.{Mends}
+use Rattle.arc_repair.proofs.Untouched.{none_chosen}
 
 abbrev HasNamesInOrder : RouterRow → Type 0
 HasNamesInOrder router = AllPairs IsNameBefore router.names
@@ -28,10 +29,6 @@ names_in_order protocol [] [] are = All-nil HasNamesInOrder
 names_in_order protocol [] (row ∷ rows) are = absurd are
 names_in_order protocol (config ∷ configs) [] are = absurd are
 names_in_order protocol (config ∷ configs) (row ∷ rows) are = All-cons HasNamesInOrder row rows are.0.names.order (names_in_order protocol configs rows are.1)
-
-none_chosen : (list : List Edit) → chosen_of list (none_of list) ≡ []
-none_chosen [] = refl
-none_chosen (edit ∷ list) = none_chosen list
 
 pub met_by_none : (down : List ℕ) (most : ℕ) (doc : Document) (files : List (List ℕ)) (net : Network) (list : List Edit) → IsNetworkWithin down most doc files net → IsValid net → MeetsDocument net doc
     → Mends net doc list (none_of list)

@@ -2,6 +2,7 @@
 use Rattle.std.proofs.Common.{◌≡◌, ℕ, Bool, Some, List, [], ◌∷◌, sym, ◌∙◌, ap, subst, arith}
 use Rattle.std.specs.List.{AllZip}
 use Rattle.arc_outside.specs.Files.{Files, with_file, with_files}
+use Rattle.arc_outside.proofs.OnShelf.{held_before, with_files-push}
 use Rattle.net_model.specs.declared.verdicts.Verdict.{Verdict}
 use Rattle.edit_list.specs.declared.claims.Claim.TheVariants.{Repaired, NoRepair}
 use Rattle.edit_list.specs.declared.edit_kinds.Edit.{Edit}
@@ -11,7 +12,7 @@ use Rattle.policy_report.specs.Certificates.{budget_text, certificate_text}
 use Rattle.arc_repair.specs.declared.answer.Answer.{Answer}
 use Rattle.arc_repair.specs.declared.answer.Answer.TheVariants.{Done as Claimed, Budget}
 use Rattle.file_copies.specs.Outputs.{copy_names, IsLeft}
-use Rattle.file_copies.proofs.OneMore.{IsFreeLast, free_last, is_written, other_kept, still_left, written_last}
+use Rattle.file_copies.proofs.OneMore.{IsFreeLast, free_last, is_written, still_left}
 use Rattle.file_copies.proofs.ReadAgain.{texts_left, unchanged_kept}
 use Rattle.command_words.specs.declared.commands.RepairWords.{RepairWords}
 use Rattle.run_files.specs.declared.outcome.Done.{Done}
@@ -40,7 +41,7 @@ module _ (words : RepairWords) (files : Files) where
     -- the files after one more write
     after_is : (told : List ℕ) (changed : List (List ℕ × List ℕ)) (certificate : List ℕ) (status : ℕ) → Writes words told changed certificate status d
         → with_files d.writes files ≡ with_file (with_files changed files) words.proof certificate
-    after_is told changed certificate status writes = ap (λ (pairs : List (List ℕ × List ℕ)). with_files pairs files) writes.writes ∙ written_last changed words.proof certificate files
+    after_is told changed certificate status writes = ap (λ (pairs : List (List ℕ × List ℕ)). with_files pairs files) writes.writes ∙ with_files-push changed words.proof certificate files
 
     written : (told : List ℕ) (changed : List (List ℕ × List ℕ)) (certificate : List ℕ) (status : ℕ) → Writes words told changed certificate status d
         → with_files d.writes files words.proof ≡ Some certificate
@@ -50,7 +51,7 @@ module _ (words : RepairWords) (files : Files) where
     -- if the certificate alone is written, all other files are kept
     alone : (told certificate : List ℕ) (status : ℕ) → Writes words told [] certificate status d → KeepsOthers words.proof files now
     alone told certificate status writes name other =
-        ap (λ (f : Files). f name) (after_is told [] certificate status writes) ∙ other_kept files words.proof certificate name (λ e. other (sym e))
+        ap (λ (f : Files). f name) (after_is told [] certificate status writes) ∙ held_before files words.proof certificate name (λ e. other (sym e))
 
     -- a repair of the words' bound
     abbrev cheapest : (price : ℕ) (flags : List Bool) (verdicts : List Verdict) (log : Log) → Gave (Claimed (Repaired price words.bound flags verdicts) log) → HasCheapest words files now
@@ -72,7 +73,7 @@ module _ (words : RepairWords) (files : Files) where
           left = subst P (sym after_files) (still_left words.suffix files (with_files writes.changed files) words.proof text words.document done.doc writes.changes.new free left);
           kept = λ name other none.
               ap (λ (f : Files). f name) after_files
-              ∙ other_kept (with_files writes.changed files) words.proof text name (λ e. other (sym e))
+              ∙ held_before (with_files writes.changed files) words.proof text name (λ e. other (sym e))
               ∙ unchanged_kept words.suffix done.doc done.built chosen writes.changed files writes.changes name none;
         }
 

@@ -2,7 +2,7 @@ pub mod OneOutcome
 pub mod Rights
 mod Heads
 pub mod Zipped
-mod Readable
+pub mod Readable
 mod Exactly
 pub mod AtPlaces
 mod Leading

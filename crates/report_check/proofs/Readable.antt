@@ -1,5 +1,5 @@
 -- A right verdict whose lines can be counted can be written in a report.
-use Rattle.std.proofs.Common.{◌≡◌, Bool, ℕ, ◌^◌, ◌<◌, ◌≤◌, List, [], ◌∷◌, length, sym, subst, arith}
+use Rattle.std.proofs.Common.{◌≡◌, Bool, ℕ, ◌<◌, ◌≤◌, List, [], ◌∷◌, length, sym, subst, arith}
 use Rattle.std.specs.Prelude.{All}
 use Rattle.std.specs.List.{AllZip}
 use Rattle.std.proofs.lemmas.List.{length-map}
@@ -16,13 +16,10 @@ use Rattle.net_model.specs.declared.verdicts.LinkPath.{LinkPath}
 use Rattle.net_model.specs.declared.verdicts.Verdict.{Verdict}
 use Rattle.net_model.specs.declared.verdicts.Verdict.TheVariants.{Closed, Paths, Walk, Denied, Cut, Refused}
 use Rattle.net_model.specs.Forwarding.{Ends}
-use Rattle.net_model.specs.declared.services.Service.{Service}
 use Rattle.net_model.specs.Packets.{subject}
-use Rattle.net_model.specs.Services.{Serves}
 use Rattle.net_model.specs.Routing.{Arc, IsArc, head_router}
 use Rattle.net_model.specs.Witnesses.{IsRight, IsRightFor, IsRightBlocking, IsRightReach, IsRightSide, IsRightCut, IsPath, Path, links_of}
-use Rattle.net_model.proofs.ServiceRanges.{bounds}
-use Rattle.net_laws.proofs.Cover.{Holds-below}
+use Rattle.net_laws.proofs.Cover.{Holds-below, Serves-below}
 use Rattle.policy_report.specs.Reports.{witness_lines, closed_line, path_line}
 use Rattle.policy_report.specs.Rereading.{MayHaveVerdict, CanBeWritten, AreLinks, IsReadable}
 
@@ -56,10 +53,6 @@ cut_links : (net : Network) (ends : Ends) (k : ℕ) (whole : Class) (links : Lis
 cut_links net ends k whole links side right =
     All-from (λ l. l.0 < length net.links) links (λ l held. let found = (right.cut l).0 held in subst (λ (n : ℕ). n < length net.links) found.1 (of_network net found.0 found.2.is_arc))
 
--- a service within a range has 24 bits
-serves-below : (s : Service) (n : ℕ) → Serves s n → n < 2 ^ 24
-serves-below s n at = let top : s.high < 2 ^ 24 = s.in_range in omega (arith, top, (bounds s n at).1)
-
 told_reach : (net : Network) (ends : Ends) (k : ℕ) (whole : Class) (v : Verdict) → IsRightReach net ends k whole v →
     length (witness_lines net v) ≤ 4294967295 → CanBeWritten net v
 told_reach net ends k whole (Paths paths) right few = (
@@ -73,7 +66,7 @@ told_reach net ends k whole (Refused packet link) right few = (
   (
     Holds-below whole.from packet.from right.packet.0,
     Holds-below whole.to packet.to right.packet.1,
-    serves-below whole.service packet.service right.packet.2,
+    Serves-below whole.service packet.service right.packet.2,
   ),
 )
 told_reach net ends k whole (Closed sides) right few = absurd right

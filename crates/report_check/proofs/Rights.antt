@@ -15,7 +15,7 @@ use Rattle.report_check.specs.declared.outcome.Outcome.{Outcome}
 use Rattle.report_check.specs.declared.outcome.Outcome.TheVariants.{Accepted, Rejected}
 use Rattle.report_check.specs.Outcomes.{IsRightAt, IsReportOutcome}
 
-not_accepted : (fault : CertFault) → Accepted ≡ Rejected fault → ⊥
+pub not_accepted : (fault : CertFault) → Accepted ≡ Rejected fault → ⊥
 not_accepted fault e = absurd (cc)
 
 -- an accepted text is read as a whole

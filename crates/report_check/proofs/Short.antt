@@ -1,5 +1,5 @@
 -- The witnesses of right verdicts are short, and so are reports of them.
-use Rattle.std.proofs.Common.{◌≡◌, ◌≢◌, ℕ, zero, suc, ◌+◌, ◌^◌, ◌<◌, ◌≤◌, ◌==◌, ◌||◌, Bool, true, false, List, [], ◌∷◌, ◌++◌, length, get_or, map, refl, sym, subst, arith, All, length-append}
+use Rattle.std.proofs.Common.{◌≡◌, ◌≢◌, ℕ, ◌+◌, ◌<◌, ◌≤◌, ◌==◌, ◌||◌, Bool, true, false, List, [], ◌∷◌, ◌++◌, length, get_or, map, refl, sym, subst, arith, All, length-append}
 use Rattle.std.specs.Prelude.{AllPairs}
 use Rattle.std.specs.List.{AllZip, flat_map, list_any}
 use Rattle.std.proofs.lemmas.Bool.{eqb-true, false≢true, ne_eqb}
@@ -7,11 +7,9 @@ use Rattle.std.proofs.lemmas.List.{length-map, get_or_append_left}
 use Rattle.std.proofs.lemmas.List.Elements.{All-nil, All-cons, All-head, All-tail, All-weaker}
 use Rattle.std.proofs.lemmas.Map.Keys.{IsDistinct-from_apart}
 use Rattle.std.proofs.lemmas.Map.Steps.{length-le_from_distinct_below}
-use Rattle.std.proofs.lemmas.Option.{slice_get_within}
 use Rattle.arc_base.specs.declared.place.Link.{Link}
 use Rattle.arc_base.proofs.Items.{AllPairs-rest, AllPairs-map, AllPairs-among}
 use Rattle.net_model.specs.declared.policies.Class.{Class}
-use Rattle.net_model.specs.declared.policies.Document.{Document}
 use Rattle.net_model.specs.declared.policies.Policy.{Policy}
 use Rattle.net_model.specs.declared.policies.PolicyKind.{PolicyKind}
 use Rattle.net_model.specs.declared.policies.PolicyKind.TheVariants.{Blocked, Through, Reach}
@@ -26,7 +24,7 @@ use Rattle.net_model.specs.Validity.{IsValid}
 use Rattle.net_model.specs.Witnesses.{IsRight, IsRightFor, IsRightBlocking, IsRightReach, IsPath, Path, links_of}
 use Rattle.policy_report.specs.Lengths.{IsShort}
 use Rattle.policy_report.specs.Reports.{witness_lines, closed_line, path_line}
-use Rattle.policy_report.specs.Rereading.{AreLinks, IsReadable}
+use Rattle.policy_report.specs.Rereading.{AreLinks}
 use Rattle.policy_report.proofs.Lengths.{reports_are_short}
 use Rattle.report_check.specs.Lengths.{HasFewLines, HasFewFailures, RightReportsAreShort}
 use Rattle.report_check.proofs.Readable.{all_readable, are_links}

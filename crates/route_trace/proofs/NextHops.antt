@@ -1,5 +1,5 @@
 -- The links of the steps that attain a router's distance are its next hops.
-use Rattle.std.proofs.Common.{◌≡◌, ℕ, zero, suc, ◌+◌, ◌<◌, ◌≤◌, true, Option, Some, None, List, [], ◌∷◌, length, get_or, map, refl, sym, ◌∙◌, ap, subst, arith}
+use Rattle.std.proofs.Common.{◌≡◌, ℕ, ◌+◌, ◌<◌, ◌≤◌, true, Option, Some, None, List, [], ◌∷◌, length, get_or, map, refl, sym, ◌∙◌, ap, subst, arith}
 use Rattle.std.specs.Prelude.{slice_index, AllPairs, Contains, ◌↔◌, ◌==◌}
 use Rattle.std.specs.List.{filter}
 use Rattle.std.specs.List.Sorted.{IsStrictlyIncreasing}
@@ -10,28 +10,14 @@ use Rattle.std.proofs.lemmas.List.Elements.{Contains-get_or}
 use Rattle.std.proofs.lemmas.Option.{none-some, same_Some, slice_get_within}
 use Rattle.arc_base.specs.declared.prefix.Prefix.{Prefix}
 use Rattle.arc_base.specs.declared.place.Link.{Link}
+use Rattle.arc_base.proofs.Items.{from_map, Contains-map, from_filter, Contains-filter}
 use Rattle.net_model.specs.declared.rows.Network.{Network}
 use Rattle.net_model.specs.Routing.{FailureSet, DistanceMap, tail_router, head_router, cost, IsStable}
 use Rattle.net_model.specs.Validity.{IsValid}
+use Rattle.net_laws.proofs.StableMaps.{cost-pos}
 use Rattle.route_trace.specs.declared.steps.Step.{Step}
 use Rattle.route_trace.specs.Routes.{distance_map, Owns, AreDistances, IsNextHop, AreNextHops}
 use Rattle.route_trace.specs.Steps.{step_of, IsUsableStep, AreSteps, is_sum, attains, is_hop, hops_of}
-use Rattle.route_trace.proofs.StepLists.{from_filter, in_filter, cost-pos}
-
--- what stands in a mapped list
-from_map : {X Y : Type 0} (f : X → Y) (xs : List X) (y : Y) → Contains (map f xs) y → (x : X) × Contains xs x × (f x ≡ y)
-from_map f [] y (k, within, e) = absurd (omega (arith, within))
-from_map f (x ∷ xs) y (zero, within, e) = (x, (0, omega arith, refl), e)
-from_map f (x ∷ xs) y (suc k, within, e) =
-    let rest : (z : _) × Contains xs z × (f z ≡ y) = from_map f xs y (k, omega (arith, within), e) in
-    (rest.0, (suc rest.1.0, omega (arith, rest.1.1), rest.1.2), rest.2)
-
-in_map : {X Y : Type 0} (f : X → Y) (xs : List X) (x : X) → Contains xs x → Contains (map f xs) (f x)
-in_map f [] x (k, within, e) = absurd (omega (arith, within))
-in_map f (z ∷ xs) x (zero, within, e) = (0, omega arith, ap f e)
-in_map f (z ∷ xs) x (suc k, within, e) =
-    let rest : Contains (map f xs) (f x) = in_map f xs x (k, omega (arith, within), e) in
-    (suc rest.0, omega (arith, rest.1), rest.2)
 
 -- a sum that comes out
 record Sums (o : Option ℕ) (step : ℕ) (r : Option ℕ) : Type 0 where
@@ -93,7 +79,7 @@ module _ (net : Network) (to : Prefix) (failed : FailureSet) (steps : List Step)
       (sums_to (cost net h.arc) h.attains.rest (d (tail_router h.arc)) (d (head_router h.arc)) h.attains.head h.attains.tail) in
       let same : ◌≡◌ {A = Link} (record { 0 = h.arc.link }) link = ap (λ (n : ℕ). record { 0 = n }) h.link_is in
       subst (Contains (hops_of steps d at)) same
-      (in_map (λ (s : Step). s.link) (filter (is_hop d at) steps) (step_of net h.arc) (in_filter (is_hop d at) steps (step_of net h.arc) among hop))
+      (Contains-map (λ (s : Step). s.link) (filter (is_hop d at) steps) (step_of net h.arc) (Contains-filter (is_hop d at) steps (step_of net h.arc) among hop))
 
   each_hop : (link : Link) → Contains (hops_of steps d at) link ↔ IsNextHop net to failed d at link
   each_hop link = (

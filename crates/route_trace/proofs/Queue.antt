@@ -1,29 +1,18 @@
 -- The queue of the routers that wait, as entries come and go.
-use Rattle.std.proofs.Common.{◌≡◌, ℕ, ◌<◌, ◌≤◌, ⊎_elim, ◌⊎◌, inl, inr, Bool, true, false, Option, Some, None, List, [], ◌∷◌, length, get_or, set, replicate, refl, sym, ◌∙◌, ap, subst, arith}
+use Rattle.std.proofs.Common.{◌≡◌, ℕ, ◌<◌, ◌≤◌, ⊎_elim, inl, inr, Bool, true, false, Option, Some, None, List, [], ◌∷◌, length, get_or, set, replicate, sym, ◌∙◌, ap, subst, arith}
 use Rattle.std.specs.Prelude.{Contains, IsPermutation}
 use Rattle.std.specs.BinaryHeap.{IsHeap, IsUpperBound}
 use Rattle.std.specs.Ordering.{nat_cmp}
 use Rattle.std.proofs.lemmas.Bool.{false≢true, cases_eq, ltb-true}
 use Rattle.std.proofs.lemmas.List.{get_or_read, get_or-set_same, get_or-set_other, length-replicate}
-use Rattle.std.proofs.lemmas.List.Elements.{Contains-push_cases, Contains-append_right, Contains-append_cases, All-head}
+use Rattle.std.proofs.lemmas.List.Elements.{Contains-append_right, All-head}
 use Rattle.std.proofs.lemmas.List.Sorted.{Contains-permutation, IsPermutation-sym, first_le_from_greatest}
 use Rattle.std.proofs.lemmas.Option.{none-some, same_Some}
+use Rattle.arc_base.proofs.Items.{Contains-cases, Contains-head}
 use Rattle.route_trace.specs.Routes.{flagged, distance_map}
 use Rattle.route_trace.specs.Steps.{IsNearest, waiting}
 use Rattle.route_trace.specs.Queue.{Entry, entry_cmp, IsLate, IsQueue, is_nearer}
 use Rattle.route_trace.proofs.UnderWay.{waits_open, waits_from, within_list, none_known}
-
--- an entry of a list with one more first is that one or of the list
-entry_cases : (e : Entry) (xs : List Entry) (f : Entry) → Contains (e ∷ xs) f → (e ≡ f) ⊎ Contains xs f
-entry_cases e xs f is =
-    ⊎_elim
-    (λ (one : Contains (e ∷ []) f).
-    ⊎_elim (λ (none : Contains [] f). absurd (omega (arith, none.1))) (λ (same : e ≡ f). inl same) (Contains-push_cases [] e f one))
-    (λ (rest : Contains xs f). inr rest)
-    (Contains-append_cases (e ∷ []) xs f is)
-
-first_entry : (e : Entry) (xs : List Entry) → Contains (e ∷ xs) e
-first_entry e xs = (0, omega arith, refl)
 
 -- an entry that is less than none has the least distance
 no_less : (e f : Entry) → IsUpperBound entry_cmp e (f ∷ []) → e.0.0 ≤ f.0.0
@@ -33,12 +22,12 @@ no_less_all : (e : Entry) (xs : List Entry) → IsUpperBound entry_cmp e xs → 
 no_less_all e [] bound f is = absurd (omega (arith, is.1))
 no_less_all e (g ∷ xs) bound f is =
     ⊎_elim (λ (same : g ≡ f). subst (λ (x : Entry). e.0.0 ≤ x.0.0) same (no_less e g (bound.0, _))) (λ (rest : Contains xs f). no_less_all e xs bound.1 f rest)
-    (entry_cases g xs f is)
+    (Contains-cases g f xs is)
 
 module _ (distances : List (Option ℕ)) (settled : List Bool) (old rest : List Entry) (e : Entry) (is : IsQueue distances settled old)
     (taken : IsPermutation old (e ∷ rest)) (heap : IsHeap entry_cmp rest) where
   was_there : Contains old e
-  was_there = Contains-permutation (e ∷ rest) old e (IsPermutation-sym old (e ∷ rest) taken) (first_entry e rest)
+  was_there = Contains-permutation (e ∷ rest) old e (IsPermutation-sym old (e ∷ rest) taken) (Contains-head e rest)
 
   late_still : (f : Entry) → Contains rest f → IsLate (distance_map distances) f
   late_still f among = is.late f (Contains-permutation (e ∷ rest) old f (IsPermutation-sym old (e ∷ rest) taken) (Contains-append_right (e ∷ []) rest f among))
@@ -49,7 +38,7 @@ module _ (distances : List (Option ℕ)) (settled : List Bool) (old rest : List 
       ⊎_elim
       (λ (same : e ≡ record { 0 = (n, u) }). absurd (off (ap (λ (x : Entry). x.0.1) same)))
       (λ (there : Contains rest (record { 0 = (n, u) })). there)
-      (entry_cases e rest (record { 0 = (n, u) }) (Contains-permutation old (e ∷ rest) (record { 0 = (n, u) }) taken (is.each u n waits)))
+      (Contains-cases e (record { 0 = (n, u) }) rest (Contains-permutation old (e ∷ rest) (record { 0 = (n, u) }) taken (is.each u n waits)))
 
   -- an entry of a settled router is passed over
   pub passed_over : flagged settled e.0.1 ≡ true → IsQueue distances settled rest
@@ -107,7 +96,7 @@ one_taken distances settled old now at x inside is joined heap low =
                 let value : x ≡ n = same_Some x n (sym new ∙ ap (distance_map (set distances at (Some x))) (sym same) ∙ was.1) in
                 let entry : e ≡ record { 0 = (n, u) } =
                 ap (λ (k : ℕ). record { 0 = (k, at) }) value ∙ ap (λ (k : ℕ). record { 0 = (n, k) }) (sym same) in
-                subst (Contains now) entry (Contains-permutation (e ∷ old) now e joined (first_entry e old))
+                subst (Contains now) entry (Contains-permutation (e ∷ old) now e joined (Contains-head e old))
             | inr off ↦
                 Contains-permutation (e ∷ old) now (record { 0 = (n, u) }) joined
                 (Contains-append_right (e ∷ []) old (record { 0 = (n, u) }) (is.each u n (waits_from distances settled u n was.0 (sym (other u off) ∙ was.1))))
@@ -123,7 +112,7 @@ one_taken distances settled old now at x inside is joined heap low =
                 record { distance = x; known = ap (distance_map (set distances at (Some x))) same ∙ new; low = omega (arith, few, was.low) }
             | inr off ↦ record { distance = was.distance; known = other f.0.1 off ∙ was.known; low = was.low }
           ])
-          (entry_cases e old f (Contains-permutation now (e ∷ old) f (IsPermutation-sym (e ∷ old) now joined) among));
+          (Contains-cases e f old (Contains-permutation now (e ∷ old) f (IsPermutation-sym (e ∷ old) now joined) among));
     }
 
 -- where no router has a distance the queue is empty

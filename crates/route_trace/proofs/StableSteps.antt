@@ -13,10 +13,10 @@ use Rattle.net_model.proofs.Readings.{place_of_item}
 use Rattle.net_model.proofs.Hosts.{lies_in, one_host_face}
 use Rattle.route_trace.specs.declared.steps.Step.{Step}
 use Rattle.net_laws.specs.Routes.{Route}
+use Rattle.net_laws.proofs.StableMaps.{cost-pos, head_in}
 use Rattle.route_trace.specs.Routes.{distance_map, Owns, HasPathLeft, AreDistances, TellReach}
 use Rattle.route_trace.specs.Steps.{step_of, IsUsableStep, AreSteps, IsOffered, IsStableOver}
 use Rattle.route_trace.proofs.Least.{same_set, has_least, holds_least}
-use Rattle.route_trace.proofs.StepLists.{cost-pos, head_in}
 
 module _ (net : Network) (to : Prefix) (failed : FailureSet) (steps : List Step) (are : AreSteps net to failed (length net.links) steps) where
   pub to_offer : (d : DistanceMap) (u k : ℕ) → IsOffered steps d u k → Offers net to failed d u k
@@ -48,11 +48,11 @@ module _ (net : Network) (to : Prefix) (failed : FailureSet) (steps : List Step)
     elsewhere = λ u within off. same_set (IsOffered steps d u) (Offers net to failed d u) (d u) (to_offer d u) (from_offer d u) (stable.elsewhere u off);
   }
 
-value_of : (o : Option ℕ) → IsSome o → (n : ℕ) × (o ≡ Some n)
+pub value_of : (o : Option ℕ) → IsSome o → (n : ℕ) × (o ≡ Some n)
 value_of None h = absurd (false≢true h)
 value_of (Some n) h = (n, refl)
 
-is_some_from : (o : Option ℕ) (n : ℕ) → o ≡ Some n → IsSome o
+pub is_some_from : (o : Option ℕ) (n : ℕ) → o ≡ Some n → IsSome o
 is_some_from o n e = subst IsSome (sym e) refl
 
 module _ (net : Network) (valid : IsValid net) (to : Prefix) (failed : FailureSet) (owner : ℕ) (d : DistanceMap) (stable : IsStable net to owner failed d) where

@@ -1,43 +1,27 @@
 -- The list of steps, as links are gone through, and the steps of one router in it.
-use Rattle.std.proofs.Common.{◌≡◌, ℕ, zero, suc, ◌+◌, ◌<◌, ◌≤◌, ⊎_elim, inl, inr, Bool, true, false, Option, Some, None, List, [], ◌∷◌, ◌++◌, length, get_or, cond, refl, sym, ◌∙◌, ap, subst, arith}
+use Rattle.std.proofs.Common.{◌≡◌, ℕ, zero, suc, ◌+◌, ◌<◌, ◌≤◌, ⊎_elim, inl, inr, Bool, true, false, Option, Some, None, List, [], ◌∷◌, ◌++◌, length, get_or, refl, sym, ◌∙◌, ap, subst, arith}
 use Rattle.std.specs.Prelude.{IsTrue, IfSome, IfNone, slice_get, All, AllPairs, Contains, ◌↔◌, ◌==◌}
-use Rattle.std.specs.List.{filter}
 use Rattle.std.specs.Option.{option_to_list}
 use Rattle.std.proofs.lemmas.Bool.{eqb-true, eq-eqb, cases_lt, cases_Bool}
 use Rattle.std.proofs.lemmas.List.{append-nil}
-use Rattle.std.proofs.lemmas.List.Elements.{All-contains, All-contains_itself, All-filter, filter_passes, Contains-get_or, Contains-append_cases, Contains-append_left, Contains-append_right}
+use Rattle.std.proofs.lemmas.List.Elements.{Contains-get_or, Contains-append_cases, Contains-append_left, Contains-append_right}
 use Rattle.std.proofs.lemmas.List.Quantifiers.{all_pairs_push}
 use Rattle.arc_base.specs.declared.prefix.Prefix.{Prefix}
+use Rattle.arc_base.proofs.Items.{from_filter, Contains-filter, Contains-none}
 use Rattle.net_model.specs.declared.rows.Protocol.{Protocol}
 use Rattle.net_model.specs.declared.rows.Protocol.TheVariants.{Ospf, Bgp}
 use Rattle.net_model.specs.declared.rows.LinkRow.{LinkRow}
 use Rattle.net_model.specs.declared.rows.Network.{Network}
 use Rattle.net_model.specs.declared.tables.RoutedLink.{RoutedLink}
-use Rattle.net_model.specs.Routing.{Arc, FailureSet, IsArc, IsRouted, IsUsable, IsRoutedLink, tail_face, head_face, tail_end, tail_router, head_router, cost, cost_at}
+use Rattle.net_model.specs.Routing.{Arc, FailureSet, IsArc, IsRouted, IsUsable, IsRoutedLink, tail_face, tail_end, tail_router, cost, cost_at}
 use Rattle.net_model.specs.Tables.{TellsRouted}
 use Rattle.net_model.specs.Validity.{IsValid, IsValidFace, IsValidLink}
 use Rattle.net_model.proofs.Arcs.{one_item, IsArc-unique}
+use Rattle.net_laws.proofs.StableMaps.{head_in}
+use Rattle.net_laws.proofs.RightPaths.{tail_in}
 use Rattle.route_trace.specs.declared.steps.Step.{Step}
 use Rattle.route_trace.specs.declared.steps.End.{End}
 use Rattle.route_trace.specs.Steps.{step_of, IsStepAt, HasNoArc, flag_of, IsUsableStep, AreSteps, IsFit, end_router, steps_at}
-
--- what a filter keeps
-pub from_filter : {X : Type 0} (p : X → Bool) (xs : List X) (x : X) → Contains (filter p xs) x → Contains xs x × (p x ≡ true)
-from_filter p xs x at = (
-  All-contains (Contains xs) (filter p xs) x (All-filter p (Contains xs) xs (All-contains_itself xs)) at,
-  All-contains (λ y. p y ≡ true) (filter p xs) x (filter_passes p xs) at,
-)
-
-pub in_filter : {X : Type 0} (p : X → Bool) (xs : List X) (x : X) → Contains xs x → p x ≡ true → Contains (filter p xs) x
-in_filter p [] x (k, within, e) pass = absurd (omega (arith, within))
-in_filter p (y ∷ ys) x (zero, within, e) pass =
-    subst (λ (b : Bool). Contains (cond b (y ∷ filter p ys) (filter p ys)) x) (sym (ap p e ∙ pass)) (0, omega arith, e)
-in_filter {X} p (y ∷ ys) x (suc k, within, e) pass =
-    let rest : Contains (filter p ys) x = in_filter p ys x (k, omega (arith, within), e) pass in
-    elim (p y) as (λ b. Contains (cond b (y ∷ filter p ys) (filter p ys)) x) [
-      | true ↦ (suc rest.0, omega (arith, rest.1), rest.2)
-      | false ↦ rest
-    ]
 
 pub from_steps_at : (end : End) (steps : List Step) (w : ℕ) (s : Step) → Contains (steps_at end steps w) s → Contains steps s × ((end_router end s).0 ≡ w)
 from_steps_at end steps w s at =
@@ -45,38 +29,24 @@ from_steps_at end steps w s at =
     (kept.0, eqb-true (end_router end s).0 w kept.1)
 
 pub in_steps_at : (end : End) (steps : List Step) (w : ℕ) (s : Step) → Contains steps s → (end_router end s).0 ≡ w → Contains (steps_at end steps w) s
-in_steps_at end steps w s at is = in_filter (λ x. (end_router end x).0 == w) steps s at (eq-eqb (end_router end s).0 w is)
+in_steps_at end steps w s at is = Contains-filter (λ x. (end_router end x).0 == w) steps s at (eq-eqb (end_router end s).0 w is)
 
 -- costs of a valid network
-cost_range : (protocol : Protocol) (arc : Arc) → 1 ≤ arc.tail.cost → arc.tail.cost ≤ 65535 → (1 ≤ cost_at protocol arc) × (cost_at protocol arc ≤ 65535)
-cost_range Ospf arc low high = (low, high)
-cost_range Bgp arc low high = (omega arith, omega arith)
+cost_at-le : (protocol : Protocol) (arc : Arc) → arc.tail.cost ≤ 65535 → cost_at protocol arc ≤ 65535
+cost_at-le Ospf arc high = high
+cost_at-le Bgp arc high = omega arith
 
 module _ (net : Network) (valid : IsValid net) where
-  tail_valid : (arc : Arc) → IsArc net arc → IsValidFace net (tail_face arc).0 arc.tail
-  tail_valid arc is_arc = valid.faces (tail_face arc).0 arc.tail is_arc.tail
-
-  head_valid : (arc : Arc) → IsArc net arc → IsValidFace net (head_face arc).0 arc.head
-  head_valid arc is_arc = valid.faces (head_face arc).0 arc.head is_arc.head
-
-  pub cost-pos : (arc : Arc) → IsArc net arc → 1 ≤ cost net arc
-  cost-pos arc is_arc = let face : IsValidFace net (tail_face arc).0 arc.tail = tail_valid arc is_arc in (cost_range net.protocol arc face.cost_low face.cost_high).0
-
-  pub cost-le : (arc : Arc) → IsArc net arc → cost net arc ≤ 65535
-  cost-le arc is_arc = let face : IsValidFace net (tail_face arc).0 arc.tail = tail_valid arc is_arc in (cost_range net.protocol arc face.cost_low face.cost_high).1
-
-  pub tail_in : (arc : Arc) → IsArc net arc → tail_router arc < length net.routers
-  tail_in arc is_arc = let face : IsValidFace net (tail_face arc).0 arc.tail = tail_valid arc is_arc in face.router
-
-  pub head_in : (arc : Arc) → IsArc net arc → head_router arc < length net.routers
-  head_in arc is_arc = let face : IsValidFace net (head_face arc).0 arc.head = head_valid arc is_arc in face.router
+  cost-le : (arc : Arc) → IsArc net arc → cost net arc ≤ 65535
+  cost-le arc is_arc =
+      let face : IsValidFace net (tail_face arc).0 arc.tail = valid.faces (tail_face arc).0 arc.tail is_arc.tail in cost_at-le net.protocol arc face.cost_high
 
   pub steps_fit : (to : Prefix) (failed : FailureSet) (n : ℕ) (steps : List Step) → AreSteps net to failed n steps → All (IsFit (length net.routers)) steps
   steps_fit to failed n steps are = λ k d within.
       let u : IsUsableStep net to failed n (get_or steps k d) = are.sound (get_or steps k d) (Contains-get_or steps k d within) in
       let fit : IsFit (length net.routers) (step_of net u.arc) = record {
-        tail = tail_in u.arc u.usable.is_arc;
-        head = head_in u.arc u.usable.is_arc;
+        tail = tail_in net valid u.arc u.usable.is_arc;
+        head = head_in net valid u.arc u.usable.is_arc;
         cost = cost-le u.arc u.usable.is_arc;
       } in
       subst (IsFit (length net.routers)) (sym u.step_is) fit
@@ -114,14 +84,11 @@ only_item : (step other : Step) → Contains (step ∷ []) other → step ≡ ot
 only_item step other (zero, within, e) = e
 only_item step other (suc k, within, e) = absurd (omega (arith, within))
 
-no_item : (other : Step) → Contains [] other → ⊥
-no_item other (k, within, e) = omega (arith, within)
-
 option_steps : (net : Network) (to : Prefix) (failed : FailureSet) (n : ℕ) (flags : RoutedLink) (f : Bool) (o : Option Step) → TellsRouted net n to flags →
     IfSome o (λ step. (failed n ≡ false) × IsTrue (flag_of flags f) × IsStepAt net n f step) →
     IfNone o (failed n ≡ false → IsTrue (flag_of flags f) → HasNoArc net n f) → IsStepOption net to failed n f (option_to_list o)
 option_steps net to failed n flags f None tells found none = record {
-  sound = λ step at. absurd (no_item step at);
+  sound = λ step at. absurd (Contains-none step at);
   complete = λ arc u link from.
       let routed : IsRoutedLink net n f to = record { arc = arc; link_is = link; direction = from; is_arc = u.is_arc; routed = u.routed } in
       absurd (none (subst (λ (l : ℕ). failed l ≡ false) link u.left) ((told net to n flags tells f).1 routed) arc u.is_arc link from);
@@ -218,7 +185,7 @@ steps_more net valid to failed n flags steps a b tells found_a none_a found_b no
 -- before the first link there is no step
 pub steps_none : (net : Network) (to : Prefix) (failed : FailureSet) → AreSteps net to failed 0 []
 steps_none net to failed = record {
-  sound = λ step at. absurd (no_item step at);
+  sound = λ step at. absurd (Contains-none step at);
   complete = λ arc u before. absurd (omega (arith, before));
   rising = λ i j d l within. absurd (omega (arith, within));
 }

@@ -1,11 +1,10 @@
 //! The lists of router files: their names, and the rows of those that are bound and defined.
 ghost use Rattle.arc_base.specs.NameForms.{IsNameBefore, texts_at};
-ghost use Rattle.net_rules.specs.Lists.{AreListNames, ArePacketLists, AreRouteLists};
-ghost use Rattle.net_rules.specs.Lists.{is_packet_kind, is_extended_kind, entry_of, packet_entry};
-ghost use Rattle.net_rules.specs.Lists.{route_entry, packet_entries, route_entries, is_of_kind};
-ghost use Rattle.net_rules.specs.Lists.{list_named, if_defined, packet_row, route_row};
-ghost use Rattle.net_rules.specs.Lists.{IsBoundPacketList, IsBoundRouteList, packet_row_at};
-ghost use Rattle.net_rules.specs.Lists.{route_row_at};
+ghost use Rattle.net_rules.specs.Lists.{is_extended_kind, IsBoundPacketList, IsBoundRouteList};
+ghost use Rattle.net_rules.specs.Lists.{ArePacketLists, is_packet_kind, packet_entries, is_of_kind};
+ghost use Rattle.net_rules.specs.Lists.{AreListNames, AreRouteLists, route_entries, packet_row_at};
+ghost use Rattle.net_rules.specs.Lists.{packet_entry, route_entry, list_named, route_row_at};
+ghost use Rattle.net_rules.specs.Lists.{entry_of, if_defined, packet_row, route_row};
 ghost use Rattle.row_making.specs.ListTables.{Adds, list_at, list_if, AddsRows};
 ghost use Rattle.std.specs.List.{filter_map};
 ghost use Rattle.std.specs.Option.{option_copied, option_or};

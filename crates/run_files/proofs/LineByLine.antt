@@ -1,5 +1,5 @@
 -- A file whose lines are taken one by one: what is known of its text and of the lines that are left.
-use Rattle.std.proofs.Common.{◌≡◌, ℕ, List, [], ◌∷◌, sym, ◌∙◌, ap, subst, true, false}
+use Rattle.std.proofs.Common.{◌≡◌, ℕ, List, [], ◌∷◌, sym, ◌∙◌, ap, subst, true}
 use Rattle.std.specs.Prelude.{Option, Some, None, IfSome, Ok, unwrap_or}
 use Rattle.arc_outside.specs.Files.{Files}
 use Rattle.arc_outside.specs.LinesRead.{left}

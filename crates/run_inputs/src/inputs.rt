@@ -4,9 +4,8 @@ ghost use Rattle.net_doc.specs.Documents.{IsWellFormed};
 ghost use Rattle.net_rules.specs.Linking.{first_above};
 ghost use Rattle.run_files.specs.Answers.{OnlyReads};
 ghost use Rattle.run_files.specs.Limits.{entries_limit, least_limit, router_limit};
-ghost use Rattle.run_inputs.specs.Inputs.{name_of, named, AreFit, HoldsDocument, IsFit};
-ghost use Rattle.run_inputs.specs.Inputs.{ReadsDocumentAt, ReadsRouterFiles, ReadsInput};
-ghost use Rattle.run_inputs.specs.Inputs.{ReadsSources};
+ghost use Rattle.run_inputs.specs.Inputs.{AreFit, HoldsDocument, ReadsDocumentAt, ReadsRouterFiles};
+ghost use Rattle.run_inputs.specs.Inputs.{name_of, named, IsFit, ReadsInput, ReadsSources};
 ghost use Rattle.std.specs.Prelude.{◌≡◌, ◌⊎◌, ◌≤◌, All, None, length, IfOk, IfSome};
 
 use arc_base::limits::DOCUMENT_LIMIT;

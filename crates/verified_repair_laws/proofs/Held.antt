@@ -11,20 +11,13 @@ use Rattle.net_build.specs.Networks.{IsNetworkOf}
 use Rattle.network_edit_laws.specs.Kept.{AllClassesStay}
 use Rattle.run_files.specs.declared.outcome.FileRefusal.{FileRefusal}
 use Rattle.run_files.specs.Limits.{document_limit}
+use Rattle.run_files.proofs.OneAnswer.{first_none, second_none}
 use Rattle.run_files.specs.Refusals.{bytes_at, first_refusal, read_refusal, refusal_of, refusal_within}
 use Rattle.arc_base.specs.declared.refusal.Kind.TheVariants as kinds
 use Rattle.run_inputs.specs.Inputs.{contents}
 use Rattle.patch_size_laws.specs.Sizes.{AreShort, PatchedFilesAreShort, bytes_of_all}
 use Rattle.patch_size_laws.proofs.Keyed.{total, total-sum}
 use Rattle.verified_repair_laws.specs.VerifiedRepairs.{RepairedFilesAreVerified}
-
-first_none : (o s : Option FileRefusal) → option_or o s ≡ None → o ≡ None
-first_none None s e = refl
-first_none (Some r) s e = absurd (cc)
-
-second_none : (o s : Option FileRefusal) → option_or o s ≡ None → s ≡ None
-second_none None s e = e
-second_none (Some r) s e = absurd (cc)
 
 -- a file that is not refused is within the limit
 within_limit : (limit : ℕ) (name : List ℕ) (o : Option (List ℕ)) → refusal_within limit name o ≡ None → length (unwrap_or o []) ≤ limit

@@ -1,5 +1,5 @@
 -- Verdicts on the policies of a document, one after another.
-use Rattle.std.proofs.Common.{◌≡◌, ℕ, ◌≤◌, inl, inr, List, [], ◌∷◌}
+use Rattle.std.proofs.Common.{◌≡◌, ℕ, ◌≤◌, List, [], ◌∷◌}
 use Rattle.std.specs.Prelude.{Option, Some, None, IfSome, Result, Ok, Err, IfOk}
 use Rattle.std.specs.List.{AllZip}
 use Rattle.net_model.specs.declared.policies.Policy.{Policy}
@@ -12,12 +12,9 @@ use Rattle.policy_report.specs.Reports.{report_text}
 use Rattle.run_inputs.specs.declared.inputs.Input.{Input}
 use Rattle.run_files.specs.declared.limits.Limits.TheVariants.{Judging}
 use Rattle.run_files.specs.declared.outcome.Done.{Done}
-use Rattle.run_files.specs.declared.outcome.Stop.{Stop}
-use Rattle.run_files.specs.declared.outcome.Stop.TheVariants as stops
 use Rattle.run_files.specs.Answers.{Answers, IsJudging}
-use Rattle.run_inputs.specs.Counts.{CountsClasses, PoliciesHaveFewClasses, IsJudgingRefusal}
-use Rattle.run_inputs.specs.Inputs.{HoldsInput, IsFit, IsInputRefusal, ReadsInput}
-use Rattle.run_files.proofs.Answering.{stopped}
+use Rattle.run_inputs.specs.Counts.{PoliciesHaveFewClasses, IsJudgingRefusal}
+use Rattle.run_inputs.specs.Inputs.{HoldsInput, IsFit}
 use Rattle.verify_commands.specs.Verifies.{IsVerdictOn, IsVerified, verdicts_status}
 use Rattle.verify_commands.proofs.Verified.{judged_true}
 
@@ -37,22 +34,6 @@ all_on net policies (Err e) right fixed = tt
 -- the input that was read
 abbrev Read : Option Files → List ℕ → Input → Type 0
 Read held document input = IfSome held (λ files. HoldsInput Judging [] document files input.doc input.net)
-
--- a document that is refused for its classes
-pub classes_stopped : (held : Option Files) (document : List ℕ) (input : Input) (stop : Stop) → Read held document input → CountsClasses document input.net input.doc.policies (Err stop)
-    → Answers IsJudging (IsJudgingRefusal Judging document) (IsVerified document) held (Err stop)
-classes_stopped None document input (stops.Refused r) told counted = tt
-classes_stopped None document input stops.Memory told counted = tt
-classes_stopped None document input stops.Failed told counted = tt
-classes_stopped (Some files) document input (stops.Refused r) told counted = inr (record { doc = input.doc; net = input.net; input = told; count = counted.0; many = counted.1; told = counted.2 })
-classes_stopped (Some files) document input stops.Memory told counted = tt
-classes_stopped (Some files) document input stops.Failed told counted = tt
-
-pub input_stopped : (held : Option Files) (document : List ℕ) (stop : Stop) → IfSome held (λ files. ReadsInput Judging [] document files (Err stop))
-    → Answers IsJudging (IsJudgingRefusal Judging document) (IsVerified document) held (Err stop)
-input_stopped held document stop told =
-    stopped IsJudging (IsJudgingRefusal Judging document) (IsVerified document) (IsInputRefusal Judging [] document) (λ files (input : Input). HoldsInput Judging [] document files input.doc input.net)
-    held stop (λ files r refused. inl refused) told
 
 -- the report of the verdicts, all of which are true
 pub verified : (held : Option Files) (document : List ℕ) (input : Input) (verdicts : List Verdict) (done : Done) → Read held document input → IsFit input

@@ -1,75 +1,33 @@
 -- What of a list stands twice, item by item.
-use Rattle.std.proofs.Common.{◌≡◌, ℕ, zero, suc, ◌+◌, ◌-◌, ◌<◌, ◌≤◌, ◌⊎◌, inl, inr, List, [], ◌∷◌, ◌++◌, length, get_or, take, drop, refl, sym, ◌∙◌, ap, subst, arith}
+use Rattle.std.proofs.Common.{◌≡◌, ℕ, suc, ◌+◌, ◌-◌, ◌<◌, ◌≤◌, ◌⊎◌, inl, inr, List, [], ◌∷◌, ◌++◌, length, get_or, take, drop, sym, ◌∙◌, ap, subst, arith}
 use Rattle.std.specs.Prelude.{◌↔◌, All, AllPairs, Contains}
 use Rattle.std.specs.List.{flat_map}
 use Rattle.std.proofs.lemmas.List.{drop_more, drop_all, take_rest, get_or_default}
+use Rattle.std.proofs.lemmas.List.Elements.{Contains-append_left, Contains-append_right, Contains-append_cases}
+use Rattle.std.proofs.lemmas.List.Kept.{AllPairs-cons}
 use Rattle.arc_base.specs.declared.place.Link.{Link}
+use Rattle.arc_base.proofs.Items.{AllPairs-rest, AllPairs-none, Contains-head, Contains-tail, Contains-cases, Contains-none}
 use Rattle.net_model.specs.declared.verdicts.LinkPath.{LinkPath}
 use Rattle.witness_check.specs.Paths.{AreApart, StandOnce}
 
-module _ {X : Type 0} where
-  pub here : (x : X) (xs : List X) → Contains (x ∷ xs) x
-  here x xs = (0, omega arith, refl)
+module _ {X : Type 0} (R : X → X → Type 0) where
+  pub pairs_first : (x : X) (xs : List X) → AllPairs R (x ∷ xs) → All (R x) xs
+  pairs_first x xs pairs k d less = pairs 0 (suc k) d (omega arith) (omega arith)
 
-  pub there : (x y : X) (xs : List X) → Contains xs y → Contains (x ∷ xs) y
-  there x y xs at = (suc (at.0), omega (arith, at.1), at.2)
+  -- the pairs of what is left of a list, one item on
+  pub pairs_on_at : (A : Type 0) (xs : List X) (i : ℕ) (x : X) → i < length xs → x ≡ get_or xs i x → All (R x) (take (length xs - (i + 1)) (drop (i + 1) xs)) →
+      (A ↔ AllPairs R (drop i xs)) → A ↔ AllPairs R (drop (i + 1) xs)
+  pairs_on_at A xs i x within read first before =
+      let split : drop i xs ≡ x ∷ drop (i + 1) xs = drop_more xs i x within ∙ ap (λ (z : X). z ∷ drop (i + 1) xs) (sym read) in
+      let others : All (R x) (drop (i + 1) xs) = subst (λ (ys : List X). All (R x) ys) (take_rest xs (i + 1)) first in (
+        λ a. AllPairs-rest R x (drop (i + 1) xs) (subst (λ (ys : List X). AllPairs R ys) split (before.0 a)),
+        λ rest. before.1 (subst (λ (ys : List X). AllPairs R ys) (sym split) (AllPairs-cons R x (drop (i + 1) xs) others rest)),
+      )
 
-  pub first_or_later : (x y : X) (xs : List X) → Contains (x ∷ xs) y → (x ≡ y) ⊎ Contains xs y
-  first_or_later x y xs (zero, within, same) = inl same
-  first_or_later x y xs (suc k, within, same) = inr (k, omega arith, same)
-
-  pub empty : (y : X) → Contains {X = X} [] y → ⊥
-  empty y at = absurd (omega (arith, at.1))
-
-  pub in_left : (xs ys : List X) (y : X) → Contains xs y → Contains (xs ++ ys) y
-  in_left [] ys y at = absurd (empty y at)
-  in_left (x ∷ xs) ys y at =
-      elim (first_or_later x y xs at) [
-        | inl same ↦ subst (λ (z : X). Contains (x ∷ (xs ++ ys)) z) same (here x (xs ++ ys))
-        | inr later ↦ there x y (xs ++ ys) (in_left xs ys y later)
-      ]
-
-  pub in_right : (xs ys : List X) (y : X) → Contains ys y → Contains (xs ++ ys) y
-  in_right [] ys y at = at
-  in_right (x ∷ xs) ys y at = there x y (xs ++ ys) (in_right xs ys y at)
-
-  pub in_either : (xs ys : List X) (y : X) → Contains (xs ++ ys) y → Contains xs y ⊎ Contains ys y
-  in_either [] ys y at = inr at
-  in_either (x ∷ xs) ys y at =
-      elim (first_or_later x y (xs ++ ys) at) [
-        | inl same ↦ inl (subst (λ (z : X). Contains (x ∷ xs) z) same (here x xs))
-        | inr later ↦ elim (in_either xs ys y later) [ inl a ↦ inl (there x y xs a) | inr b ↦ inr b ]
-      ]
-
-  module _ (R : X → X → Type 0) where
-    pub pairs_first : (x : X) (xs : List X) → AllPairs R (x ∷ xs) → All (R x) xs
-    pairs_first x xs pairs k d less = pairs 0 (suc k) d (omega arith) (omega arith)
-
-    pub pairs_rest : (x : X) (xs : List X) → AllPairs R (x ∷ xs) → AllPairs R xs
-    pairs_rest x xs pairs i j d less within = pairs (suc i) (suc j) d (omega arith) (omega arith)
-
-    pub pairs_more : (x : X) (xs : List X) → All (R x) xs → AllPairs R xs → AllPairs R (x ∷ xs)
-    pairs_more x xs first pairs i zero d less within = absurd (omega (arith, less))
-    pairs_more x xs first pairs zero (suc j) d less within = first j d (omega arith)
-    pairs_more x xs first pairs (suc i) (suc j) d less within = pairs i j d (omega arith) (omega arith)
-
-    pub pairs_none : AllPairs R []
-    pairs_none i j d less within = absurd (omega (arith, less, within))
-
-    -- the pairs of what is left of a list, one item on
-    pub pairs_on_at : (A : Type 0) (xs : List X) (i : ℕ) (x : X) → i < length xs → x ≡ get_or xs i x → All (R x) (take (length xs - (i + 1)) (drop (i + 1) xs)) →
-        (A ↔ AllPairs R (drop i xs)) → A ↔ AllPairs R (drop (i + 1) xs)
-    pairs_on_at A xs i x within read first before =
-        let split : drop i xs ≡ x ∷ drop (i + 1) xs = drop_more xs i x within ∙ ap (λ (z : X). z ∷ drop (i + 1) xs) (sym read) in
-        let others : All (R x) (drop (i + 1) xs) = subst (λ (ys : List X). All (R x) ys) (take_rest xs (i + 1)) first in (
-          λ a. pairs_rest x (drop (i + 1) xs) (subst (λ (ys : List X). AllPairs R ys) split (before.0 a)),
-          λ rest. before.1 (subst (λ (ys : List X). AllPairs R ys) (sym split) (pairs_more x (drop (i + 1) xs) others rest)),
-        )
-
-    pub pairs_first_at : (xs : List X) (i : ℕ) (x : X) → i < length xs → x ≡ get_or xs i x → AllPairs R (drop i xs) → All (R x) (take (length xs - (i + 1)) (drop (i + 1) xs))
-    pairs_first_at xs i x within read pairs =
-        let split : drop i xs ≡ x ∷ drop (i + 1) xs = drop_more xs i x within ∙ ap (λ (z : X). z ∷ drop (i + 1) xs) (sym read) in
-        subst (λ (ys : List X). All (R x) ys) (sym (take_rest xs (i + 1))) (pairs_first x (drop (i + 1) xs) (subst (λ (ys : List X). AllPairs R ys) split pairs))
+  pub pairs_first_at : (xs : List X) (i : ℕ) (x : X) → i < length xs → x ≡ get_or xs i x → AllPairs R (drop i xs) → All (R x) (take (length xs - (i + 1)) (drop (i + 1) xs))
+  pairs_first_at xs i x within read pairs =
+      let split : drop i xs ≡ x ∷ drop (i + 1) xs = drop_more xs i x within ∙ ap (λ (z : X). z ∷ drop (i + 1) xs) (sym read) in
+      subst (λ (ys : List X). All (R x) ys) (sym (take_rest xs (i + 1))) (pairs_first x (drop (i + 1) xs) (subst (λ (ys : List X). AllPairs R ys) split pairs))
 
 -- links that differ pair by pair
 apart_from : (x : Link) (xs : List Link) → (Contains xs x → ⊥) → All (AreApart x) xs
@@ -79,37 +37,37 @@ not_among : (x : Link) (xs : List Link) → All (AreApart x) xs → Contains xs 
 not_among x xs apart at = apart at.0 x at.1 (sym at.2)
 
 pub once_first : (x : Link) (xs others : List Link) → StandOnce (x ∷ xs) others → (Contains xs x → ⊥) × (Contains others x → ⊥)
-once_first x xs others once = (not_among x xs (pairs_first AreApart x xs once.0), once.1 x (here x xs))
+once_first x xs others once = (not_among x xs (pairs_first AreApart x xs once.0), once.1 x (Contains-head x xs))
 
 pub once_rest : (x : Link) (xs others : List Link) → StandOnce (x ∷ xs) others → StandOnce xs others
-once_rest x xs others once = (pairs_rest AreApart x xs once.0, λ l at. once.1 l (there x l xs at))
+once_rest x xs others once = (AllPairs-rest AreApart x xs once.0, λ l at. once.1 l (Contains-tail x l xs at))
 
 pub once_more : (x : Link) (xs others : List Link) → (Contains xs x → ⊥) → (Contains others x → ⊥) → StandOnce xs others → StandOnce (x ∷ xs) others
 once_more x xs others not_here not_there once = (
-  pairs_more AreApart x xs (apart_from x xs not_here) once.0,
-  λ l at other. elim (first_or_later x l xs at) [
+  AllPairs-cons AreApart x xs (apart_from x xs not_here) once.0,
+  λ l at other. elim (Contains-cases x l xs at) [
     | inl same ↦ not_there (subst (λ (z : Link). Contains others z) (sym same) other)
     | inr later ↦ once.1 l later other
   ],
 )
 
 pub once_none : (others : List Link) → StandOnce [] others
-once_none others = (pairs_none AreApart, λ l at other. empty l at)
+once_none others = (AllPairs-none AreApart, λ l at other. Contains-none l at)
 
 -- no link stands twice in two lists after one another where each stands once in the first, apart from the second, and once in the second
 pub joined : (xs ys : List Link) → StandOnce xs ys → AllPairs AreApart ys → AllPairs AreApart (xs ++ ys)
 joined [] ys once pairs = pairs
 joined (x ∷ xs) ys once pairs =
     let first : (Contains xs x → ⊥) × (Contains ys x → ⊥) = once_first x xs ys once in
-    pairs_more AreApart x (xs ++ ys) (apart_from x (xs ++ ys) (λ at. elim (in_either xs ys x at) [ inl a ↦ first.0 a | inr b ↦ first.1 b ]))
+    AllPairs-cons AreApart x (xs ++ ys) (apart_from x (xs ++ ys) (λ at. elim (Contains-append_cases xs ys x at) [ inl a ↦ first.0 a | inr b ↦ first.1 b ]))
     (joined xs ys (once_rest x xs ys once) pairs)
 
 pub parted : (xs ys : List Link) → AllPairs AreApart (xs ++ ys) → StandOnce xs ys × AllPairs AreApart ys
 parted [] ys pairs = (once_none ys, pairs)
 parted (x ∷ xs) ys pairs =
-    let rest : StandOnce xs ys × AllPairs AreApart ys = parted xs ys (pairs_rest AreApart x (xs ++ ys) pairs) in
+    let rest : StandOnce xs ys × AllPairs AreApart ys = parted xs ys (AllPairs-rest AreApart x (xs ++ ys) pairs) in
     let none : Contains (xs ++ ys) x → ⊥ = not_among x (xs ++ ys) (pairs_first AreApart x (xs ++ ys) pairs) in
-    (once_more x xs ys (λ at. none (in_left xs ys x at)) (λ at. none (in_right xs ys x at)) rest.0, rest.1)
+    (once_more x xs ys (λ at. none (Contains-append_left xs ys x at)) (λ at. none (Contains-append_right xs ys x at)) rest.0, rest.1)
 
 -- a look at each path in turn
 abbrev links_in : LinkPath → List Link
@@ -123,22 +81,22 @@ flat_at paths i path within read =
 pub used_at : (A : Type 0) (paths : List LinkPath) (i : ℕ) (path : LinkPath) (link : Link) → i < length paths → path ≡ get_or paths i path → Contains path.links link →
     (A ↔ Contains (flat_map (λ path. path.links) (drop i paths)) link) → A
 used_at A paths i path link within read at before =
-    before.1 (subst (λ (ls : List Link). Contains ls link) (sym (flat_at paths i path within read)) (in_left path.links (flat_map links_in (drop (i + 1) paths)) link at))
+    before.1 (subst (λ (ls : List Link). Contains ls link) (sym (flat_at paths i path within read)) (Contains-append_left path.links (flat_map links_in (drop (i + 1) paths)) link at))
 
 pub used_on_at : (A : Type 0) (paths : List LinkPath) (i : ℕ) (path : LinkPath) (link : Link) → i < length paths → path ≡ get_or paths i path → (Contains path.links link → ⊥) →
     (A ↔ Contains (flat_map (λ path. path.links) (drop i paths)) link) → A ↔ Contains (flat_map (λ path. path.links) (drop (i + 1) paths)) link
 used_on_at A paths i path link within read none before =
     let split : flat_map links_in (drop i paths) ≡ path.links ++ flat_map links_in (drop (i + 1) paths) = flat_at paths i path within read in (
-      λ a. elim (in_either path.links (flat_map links_in (drop (i + 1) paths)) link (subst (λ (ls : List Link). Contains ls link) split (before.0 a))) [
+      λ a. elim (Contains-append_cases path.links (flat_map links_in (drop (i + 1) paths)) link (subst (λ (ls : List Link). Contains ls link) split (before.0 a))) [
         | inl h ↦ absurd (none h)
         | inr later ↦ later
       ],
-      λ later. before.1 (subst (λ (ls : List Link). Contains ls link) (sym split) (in_right path.links (flat_map links_in (drop (i + 1) paths)) link later)),
+      λ later. before.1 (subst (λ (ls : List Link). Contains ls link) (sym split) (Contains-append_right path.links (flat_map links_in (drop (i + 1) paths)) link later)),
     )
 
 pub unused_at : (A : Type 0) (paths : List LinkPath) (i : ℕ) (link : Link) → length paths ≤ i → (A ↔ Contains (flat_map (λ path. path.links) (drop i paths)) link) → A → ⊥
 unused_at A paths i link past before a =
-    empty link (subst (λ (ps : List LinkPath). Contains (flat_map links_in ps) link) (drop_all i paths past) (before.0 a))
+    Contains-none link (subst (λ (ps : List LinkPath). Contains (flat_map links_in ps) link) (drop_all i paths past) (before.0 a))
 
 pub disjoint_first_at : (paths : List LinkPath) (i : ℕ) (path : LinkPath) → i < length paths → path ≡ get_or paths i path → AllPairs AreApart (flat_map (λ path. path.links) (drop i paths)) →
     StandOnce path.links (flat_map (λ path. path.links) (take (length paths - (i + 1)) (drop (i + 1) paths)))
@@ -159,7 +117,7 @@ disjoint_on_at A paths i path within read once before =
 
 pub disjoint_end : (A : Type 0) (paths : List LinkPath) (i : ℕ) → length paths ≤ i → (A ↔ AllPairs AreApart (flat_map (λ path. path.links) (drop i paths))) → A
 disjoint_end A paths i past before =
-    before.1 (subst (λ (ps : List LinkPath). AllPairs AreApart (flat_map links_in ps)) (sym (drop_all i paths past)) (pairs_none AreApart))
+    before.1 (subst (λ (ps : List LinkPath). AllPairs AreApart (flat_map links_in ps)) (sym (drop_all i paths past)) (AllPairs-none AreApart))
 
 -- a look at each link in turn
 pub once_not_at : (links others : List Link) (i : ℕ) (d : Link) → i < length links →

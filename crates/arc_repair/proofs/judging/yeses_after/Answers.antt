@@ -1,10 +1,11 @@
 use Rattle.network_edit_laws.proofs.SameClasses.{classes_stay}
 use Rattle.network_edit_laws.proofs.SameHosts.{ends_stay}
 use Rattle.std.specs.List.{AllZip}
+use Rattle.std.proofs.lemmas.Option.{IfSome_then}
 use Rattle.arc_repair.specs.Claims.{IsRightYes}
 use Rattle.arc_repair.specs.Search.{AreYesAfter}
 use Rattle.arc_repair.proofs.Yeses.{few_after}
-use Rattle.arc_repair.proofs.Repaired.{meets_there, if_some_along}
+use Rattle.arc_repair.proofs.Repaired.{meets_there}
 use Rattle.arc_repair.proofs.judging.yeses_after.Goals as goal
 
 pub yeses-requires-clause-ends : goal.yeses-requires-clause-ends
@@ -16,8 +17,9 @@ yeses-requires-clause-classes g c = few_after classes_stay c.args.net.now c.in_o
 
 pub returns-clause-some : goal.returns-clause-some
 returns-clause-some g c =
-    if_some_along (AllZip (IsRightYes c.in_ok-after.after) c.args.doc.now.policies) (AreYesAfter c.args.net.now c.args.doc.now c.args.list.now c.args.chosen.now) c.in_ok-verdicts.verdicts
-    (λ vs zip. record { after = c.in_ok-after.after; is_after = c.in_ok-after.ensures.after; judged = zip }) c.in_ok-verdicts.ensures.some
+    IfSome_then c.in_ok-verdicts.verdicts {P = AllZip (IsRightYes c.in_ok-after.after) c.args.doc.now.policies}
+    {Q = AreYesAfter c.args.net.now c.args.doc.now c.args.list.now c.args.chosen.now} c.in_ok-verdicts.ensures.some
+    (λ vs zip. record { after = c.in_ok-after.after; is_after = c.in_ok-after.ensures.after; judged = zip })
 
 pub returns-clause-none : goal.returns-clause-none
 returns-clause-none g c = λ none mends.

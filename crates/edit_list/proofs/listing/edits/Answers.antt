@@ -1,5 +1,6 @@
 use Rattle.std.proofs.Common.{◌≡◌, ℕ, ◌∙◌, ◌^◌, ◌++◌, ◌≤◌, List, length, map, ap, refl, arith}
 use Rattle.std.specs.List.{flat_map}
+use Rattle.std.proofs.lemmas.Nat.{mul-le}
 use Rattle.net_model.specs.declared.policies.Class.{Class}
 use Rattle.net_model.specs.declared.policies.Document.{Document}
 use Rattle.net_model.specs.declared.rows.Network.{Network}
@@ -10,7 +11,7 @@ use Rattle.edit_list.specs.declared.edit_kinds.Edit.{Edit}
 use Rattle.edit_list.specs.declared.sites.Site.{Site}
 use Rattle.edit_list.specs.EditLists.{all_edits, link_edits, route_edit, packet_edit, writable_classes, DocumentHasFewClasses}
 use Rattle.edit_list.specs.Sites.{route_sites}
-use Rattle.edit_list.proofs.Counts.{counted_all, few_writable, small_product, have_hosts}
+use Rattle.edit_list.proofs.Counts.{counted_all, few_writable, have_hosts}
 use Rattle.edit_list.proofs.listing.edits.Goals as goal
 
 pub destinations-requires : goal.destinations-requires
@@ -20,7 +21,7 @@ pub overflow_mul-count : goal.overflow_mul-count
 overflow_mul-count c =
     omega (
       arith,
-      small_product c.len-2.result c.len-3.result (2 ^ 33) 256
+      mul-le c.len-2.result c.len-3.result (2 ^ 33) 256
           (omega (arith, c.len-2.ensures, c.in_ok-routes.routes.ok.0, c.in_ok-routes.ensures.few))
           (omega (arith, c.len-3.ensures, c.in_ok-destinations.destinations.ok.0, c.in_ok-destinations.ensures.few, c.requires.few)),
     )
@@ -29,7 +30,7 @@ pub overflow_add-count : goal.overflow_add-count
 overflow_add-count c =
     omega (
       arith,
-      small_product c.len-2.result c.len-3.result (2 ^ 33) 256 (omega (arith, c.len-2.ensures, c.in_ok-routes.routes.ok.0, c.in_ok-routes.ensures.few))
+      mul-le c.len-2.result c.len-3.result (2 ^ 33) 256 (omega (arith, c.len-2.ensures, c.in_ok-routes.routes.ok.0, c.in_ok-routes.ensures.few))
           (omega (arith, c.len-3.ensures, c.in_ok-destinations.destinations.ok.0, c.in_ok-destinations.ensures.few, c.requires.few)),
       c.len.ensures,
       c.in_ok-list.list.small,
@@ -46,7 +47,7 @@ pub overflow_mul-count-2 : goal.overflow_mul-count-2
 overflow_mul-count-2 c =
     omega (
       arith,
-      small_product c.len-4.result c.len-5.result (2 ^ 33) 4096 (omega (arith, c.len-4.ensures, c.in_ok-packets.packets.ok.0, c.in_ok-packets.ensures.few))
+      mul-le c.len-4.result c.len-5.result (2 ^ 33) 4096 (omega (arith, c.len-4.ensures, c.in_ok-packets.packets.ok.0, c.in_ok-packets.ensures.few))
           (few_written c.in_ok-classes.classes c.slice.result.now c.in_ok-writable.writable.items c.len-5.result
           (c.len-5.ensures ∙ c.in_ok-writable.writable.ok.0) c.in_ok-writable.ensures c.slice.ensures.items c.in_ok-classes.ensures.few),
     )
@@ -55,9 +56,9 @@ pub overflow_add-count-2 : goal.overflow_add-count-2
 overflow_add-count-2 c =
     omega (
       arith,
-      small_product c.len-2.result c.len-3.result (2 ^ 33) 256 (omega (arith, c.len-2.ensures, c.in_ok-routes.routes.ok.0, c.in_ok-routes.ensures.few))
+      mul-le c.len-2.result c.len-3.result (2 ^ 33) 256 (omega (arith, c.len-2.ensures, c.in_ok-routes.routes.ok.0, c.in_ok-routes.ensures.few))
           (omega (arith, c.len-3.ensures, c.in_ok-destinations.destinations.ok.0, c.in_ok-destinations.ensures.few, c.requires.few)),
-      small_product c.len-4.result c.len-5.result (2 ^ 33) 4096 (omega (arith, c.len-4.ensures, c.in_ok-packets.packets.ok.0, c.in_ok-packets.ensures.few))
+      mul-le c.len-4.result c.len-5.result (2 ^ 33) 4096 (omega (arith, c.len-4.ensures, c.in_ok-packets.packets.ok.0, c.in_ok-packets.ensures.few))
           (few_written c.in_ok-classes.classes c.slice.result.now c.in_ok-writable.writable.items c.len-5.result
           (c.len-5.ensures ∙ c.in_ok-writable.writable.ok.0) c.in_ok-writable.ensures c.slice.ensures.items c.in_ok-classes.ensures.few),
       c.len.ensures,

@@ -1,11 +1,12 @@
 use Rattle.std.proofs.Common.{◌≡◌, ℕ, ◌+◌, [], ◌∷◌, List, sym, subst, arith}
 use Rattle.std.specs.Prelude.{map}
 use Rattle.std.specs.List.{AllZip}
+use Rattle.arc_base.proofs.Zips.{AllZip-append}
 use Rattle.net_model.specs.declared.policies.Policy.{Policy}
 use Rattle.net_model.specs.declared.policies.PolicyKind.TheVariants.{Blocked, Reach}
 use Rattle.net_gen.specs.Plans.{numbers}
 use Rattle.net_gen.specs.Generated.{Asks, asked, asked_around}
-use Rattle.net_gen.proofs.Counted.{asked_more, pushed_long, AllZip-append}
+use Rattle.net_gen.proofs.Counted.{asked_more, pushed_long}
 use Rattle.net_gen.proofs.documents.policies.Goals as goal
 
 pub loop-place-preserved : goal.loop-place-preserved
@@ -24,4 +25,4 @@ returns c =
     let around : AllZip Asks (map (asked_around n) (numbers n)) c.loop-place.policies =
     subst (λ (k : ℕ). AllZip Asks (map (asked_around n) (numbers k)) c.loop-place.policies) end c.loop-place.invariant.asked in
     subst (λ (ps : List Policy). AllZip Asks (asked n) ps) (sym c.in_ok-push-2.ensures.ok)
-    (AllZip-append Asks (map (asked_around n) (numbers n)) (record { kind = Blocked; source = 1; target = n } ∷ []) c.loop-place.policies (c.policy-2.result ∷ []) around (c.policy-2.ensures, tt))
+    (AllZip-append Asks (map (asked_around n) (numbers n)) c.loop-place.policies (record { kind = Blocked; source = 1; target = n } ∷ []) (c.policy-2.result ∷ []) around (c.policy-2.ensures, tt))
