@@ -1,6 +1,6 @@
 -- How the lines of a text and the words of a line begin.
 use Rattle.std.proofs.Common.{◌≡◌, ℕ, suc, zero, ◌+◌, ◌<◌, ◌≤◌, Bool, true, false, not, List, [], ◌∷◌, length, take, drop, filter}
-use Rattle.std.proofs.Common.{refl, ap, sym, ◌∙◌, arith, ⊎_elim, one-add, Some, None, position, take_all, get_or, All, drop-drop, add-one, ap₂, length-take, length-drop}
+use Rattle.std.proofs.Common.{refl, ap, sym, ◌∙◌, arith, ⊎_elim, one-add, Some, None, Option, option_map, position, take_all, get_or, All, add-one, ap₂, length-take, length-drop}
 use Rattle.std.specs.List.{position_or_len, onto_first, slice_split}
 use Rattle.std.proofs.lemmas.Bool.{cases_Bool, not-true, false≢true}
 use Rattle.std.proofs.lemmas.Bool.Decides.{nat_tests}
@@ -9,6 +9,9 @@ use Rattle.std.proofs.lemmas.List.Quantifiers.{position-Some}
 use Rattle.std.proofs.lemmas.List.Splits.{slice_split_first, slice_split_none}
 use Rattle.std.proofs.lemmas.List.Sums.{fails_before_first}
 use Rattle.std.proofs.lemmas.List.Elements.{All-from_get_or}
+use Rattle.std.proofs.lemmas.Option.{none-some}
+use Rattle.std.proofs.NetLemmas.Options.{map_some}
+use Rattle.arc_base.specs.Cuts.{cut_at}
 use Rattle.arc_base.specs.TextLines.{lines, is_line_feed}
 use Rattle.arc_base.specs.Words.{words, is_blank, is_filled}
 
@@ -129,13 +132,23 @@ module _ (line rest : List ℕ) (i : ℕ) (start : position (λ b. not (is_blank
   rest_is_shorter j after e after_is =
       omega (arith, ap length after_is, length-drop j rest, ap length rest_is, length-drop i line, end_is_later j e, (first_place (λ b. not (is_blank b)) line i start).1)
 
-pub line_and_rest : (text front rest after : List ℕ) (i : ℕ) → position is_line_feed text ≡ Some i → front ≡ take i text → rest ≡ drop i text → after ≡ drop 1 rest → lines text ≡ front ∷ lines after
-line_and_rest text front rest after i place front_is rest_is after_is =
-    let next : after ≡ drop (suc i) text = after_is ∙ ap (drop 1) rest_is ∙ drop-drop 1 i text ∙ ap (λ n. drop n text) (add-one i) in
-    rw (front_is, next) (lines_at_feed text i place)
+pub line_and_rest : (text front after : List ℕ) → cut_at 10 text ≡ Some (front, after) → lines text ≡ front ∷ lines after
+line_and_rest text front after e =
+    map_some _ (position is_line_feed text) (front, after) e λ place place_is parts.
+    let after_is : drop (suc place) text ≡ after = ap (λ n. drop n text) (sym (add-one place)) ∙ ap (λ p. p.1) parts in
+    lines_at_feed text place place_is ∙ ap₂ (λ l r. l ∷ lines r) (ap (λ p. p.0) parts) after_is
 
-pub whole_line : (text front rest : List ℕ) → 0 < length text → position is_line_feed text ≡ None → front ≡ take (length text) text → rest ≡ drop (length text) text → lines text ≡ front ∷ lines rest
+pub parts_fit : (text front after : List ℕ) → cut_at 10 text ≡ Some (front, after) → length front + length after < length text
+parts_fit text front after e =
+    map_some _ (position is_line_feed text) (front, after) e λ place place_is parts.
+    omega (arith, (first_place is_line_feed text place place_is).1, ap (λ p. length p.0) parts, ap (λ p. length p.1) parts, length-take place text, length-drop (place + 1) text)
+
+no_feed : (text : List ℕ) (place : Option ℕ) → option_map {U = List ℕ × List ℕ} (λ i. (take i text, drop (i + 1) text)) place ≡ None → place ≡ None
+no_feed text None e = refl
+no_feed text (Some i) e = absurd (none-some _ (sym e))
+
+pub whole_line : (text front rest : List ℕ) → 0 < length text → cut_at 10 text ≡ None → front ≡ take (length text) text → rest ≡ drop (length text) text → lines text ≡ front ∷ lines rest
 whole_line text front rest filled none front_is rest_is =
     let front_whole : front ≡ text = front_is ∙ take_all (length text) text (omega arith) in
     let rest_empty : rest ≡ [] = rest_is ∙ drop_all (length text) text (omega arith) in
-    rw (front_whole, rest_empty) (lines_without_feed text filled none)
+    rw (front_whole, rest_empty) (lines_without_feed text filled (no_feed text (position is_line_feed text) none))

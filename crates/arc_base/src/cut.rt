@@ -6,10 +6,8 @@ ghost use Rattle.std.specs.Prelude.{◌≡◌, ◌==◌, option_map, position, I
 pub fn cut_at(text: &[u8], byte: u8) -> Option<(&[u8], &[u8])>
     ensures { option_map (λ parts. (parts.0.now, parts.1.now)) result ≡ cut_at byte text.now }
 {
-    match place_of(text, byte) {
-        Some(place) => Some((&text[..place], &text[place + 1..])),
-        None => None,
-    }
+    let place = place_of(text, byte)?;
+    Some((&text[..place], &text[place + 1..]))
 }
 
 /// The index of the first of these bytes.

@@ -26,23 +26,6 @@ impl<T> Model for Group<T> {
 }
 
 impl<T> Group<T> {
-    fn none(alloc: Global) -> Group<T>
-        ensures { result ≡ [] }
-    {
-        Group {
-            items: Vec::new(alloc),
-        }
-    }
-
-    fn push(&mut self, thing: T) -> Result<(), Memory>
-    where
-        T: Drop,
-        ensures { OnOk result (self.new ≡ self.old ++ thing ∷ []) }
-    {
-        self.items.push(thing)?;
-        Ok(())
-    }
-
     /// The things, in their order.
     pub fn slice(&self) -> &[T]
         ensures { result.now ≡ self.now }
@@ -59,7 +42,8 @@ where
 {
     let mut groups = Vec::new(alloc);
     for _ in 0..count {
-        groups.push(Group::none(alloc))?;
+        let items = Vec::new(alloc);
+        groups.push(Group { items })?;
     }
     Ok(groups)
 }
@@ -71,10 +55,8 @@ where
     ensures { OnOk result (groups.new.items ≡ slice_set groups.old.items number
         (slice_index_or groups.old.items number [] ++ thing ∷ [])) }
 {
-    let at = number as usize;
-    if at < groups.len() {
-        let group = &mut groups[at];
-        group.push(thing)?;
+    if let Some(group) = groups.get_mut(number as usize) {
+        group.items.push(thing)?;
     }
     Ok(())
 }
@@ -154,8 +136,5 @@ pub fn things_at<T>(groups: &[Group<T>], at: u32) -> &[T]
 pub fn is_filled<T>(groups: &[Group<T>], at: u32) -> bool
     ensures { result ≡ not (is_empty (unwrap_or (slice_get groups.now at) [])) }
 {
-    match things_at(groups, at) {
-        [] => false,
-        _ => true,
-    }
+    !things_at(groups, at).is_empty()
 }

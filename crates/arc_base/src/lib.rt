@@ -6,7 +6,6 @@
 mod certificate;
 mod cut;
 pub mod groups;
-pub mod laws;
 pub mod limits;
 mod line_words;
 mod list;
@@ -31,7 +30,8 @@ pub use name_form::is_name;
 pub use place::{Face, Link, ListId, Router};
 pub use prefix::Prefix;
 pub use prefix_text::{
-    push_address, push_number, push_prefix, read_address, read_number, read_prefix,
+    prefix_texts_are_exact, push_address, push_number, push_prefix, read_address, read_number,
+    read_prefix,
 };
 pub use refusal::{Kind, LimitKind};
 pub use span::Span;

@@ -1,21 +1,16 @@
 //! The lines of a text and the words of a line, one by one from the front.
-ghost use Rattle.arc_base.specs.TextLines.{lines, without_return, is_line_feed};
+ghost use Rattle.arc_base.specs.TextLines.{lines, without_return};
 ghost use Rattle.arc_base.specs.Words.{words, is_blank};
 ghost use Rattle.std.specs.List.{position};
 ghost use Rattle.std.specs.Prelude.{◌≡◌, ◌<◌, ◌≤◌, ◌+◌, [], ◌∷◌, length, IfSome, IfNone, not};
+
+use crate::cut::cut_at;
 
 /// Whether a byte separates words: a space or a tab.
 fn is_blank(byte: u8) -> bool
     ensures { result ≡ is_blank byte }
 {
     byte == b' ' || byte == b'\t'
-}
-
-/// The index of the first line feed.
-fn line_end(text: &[u8]) -> Option<usize>
-    ensures { result ≡ position is_line_feed text.now }
-{
-    text.iter().position(|byte| *byte == b'\n')
 }
 
 /// The index of the first byte that is no blank.
@@ -39,12 +34,8 @@ pub fn first_line(text: &[u8]) -> (&[u8], &[u8])
     ensures shorter { length result.0.now + length result.1.now ≤ length text.now }
     ensures rest { length result.1.now < length text.now }
 {
-    match line_end(text) {
-        Some(end) => {
-            let (line, rest) = text.split_at(end);
-            let (_, rest) = rest.split_at(1);
-            (line, rest)
-        }
+    match cut_at(text, b'\n') {
+        Some(parts) => parts,
         None => text.split_at(text.len()),
     }
 }

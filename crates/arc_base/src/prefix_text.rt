@@ -1,7 +1,7 @@
 //! Numbers, addresses and prefixes as text: in decimal digits with no zero before another digit,
 //! addresses in four bytes with dots between them, prefixes as `A/L` (RFC 4632).
 ghost use Rattle.arc_base.specs.PrefixText.{BeginsAsNumber, number_of, address_of, prefix_of};
-ghost use Rattle.arc_base.specs.PrefixText.{address_text, prefix_text};
+ghost use Rattle.arc_base.specs.PrefixText.{address_text, prefix_text, PrefixTextsAreExact};
 ghost use Rattle.std.specs.Prelude.{◌≡◌, ◌↔◌, ◌++◌, Some, decimal, IsTrue, OnOk};
 
 use crate::cut::cut_at;
@@ -82,3 +82,8 @@ pub fn push_prefix(alloc: Global, text: &mut Vec<u8>, prefix: &Prefix) -> Result
     text.push(b'/')?;
     push_number(alloc, text, u64::from(prefix.len))
 }
+
+/// A law: what is read as a prefix is its text, and the text of a prefix is read as it.
+pub fn prefix_texts_are_exact()
+    ensures { PrefixTextsAreExact }
+{}

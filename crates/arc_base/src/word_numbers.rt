@@ -43,14 +43,10 @@ pub fn number(word: &[u8], limit: u64) -> Option<i64>
     ensures limit { IfSome result (λ z. unsigned_abs z ≤ limit) }
 {
     match word {
-        [b'-', digits @ ..] => {
-            let value = natural(digits, limit)?;
-            if value == 0 {
-                None
-            } else {
-                Some(-(value as i64))
-            }
-        }
+        [b'-', digits @ ..] => match natural(digits, limit)? {
+            0 => None,
+            value => Some(-(value as i64)),
+        },
         _ => Some(natural(word, limit)? as i64),
     }
 }

@@ -8,7 +8,7 @@ loop-group-preserved g c =
     let whole : List g.row.T.Denot → List g.row.T.Denot = λ group. group in
     pieces_more whole c.loop-group.list.items c.append.new.list.items c.deref-group-items.result.now c.loop-group.group-index c.group-item.result c.loop-group-test.true c.group-item.is
     c.loop-group.invariant
-    (c.in_ok-append.ensures ∙ ap (λ l. c.loop-group.list.items ++ l) c.slice.ensures)
+    (◌∙◌ {A = List g.row.T.Denot} {b = c.loop-group.list.items ++ c.slice.result.now} c.in_ok-append.ensures (ap (λ l. c.loop-group.list.items ++ l) c.slice.ensures))
 
 pub returns : goal.returns
 returns g c =

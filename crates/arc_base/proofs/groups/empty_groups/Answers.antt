@@ -6,7 +6,7 @@ pub loop-init : goal.loop-init
 loop-init g c = c.new-groups.ensures.items
 
 pub loop-preserved : goal.loop-preserved
-loop-preserved g c = empties_more c.loop.counter c.loop.groups.items c.push.new.self.items c.none.result c.none.ensures c.loop.invariant c.in_ok-push.ensures.items
+loop-preserved g c = empties_more c.loop.counter c.loop.groups.items c.push.new.self.items _ c.new-items.ensures.items c.loop.invariant c.in_ok-push.ensures.items
 
 pub returns : goal.returns
 returns g c =
