@@ -3,7 +3,5 @@
 #![tactic(auto)]
 
 mod notes;
-#[cfg(test)]
-mod tests;
 
 pub use notes::{edits_close, holds_for_any};
