@@ -25,7 +25,7 @@ pub struct Checker {
     tops: Vec<Lit>,
     refuted: bool,
     // Room that is used again for each line: for its numbers and its literals.
-    numbers: Vec<i64>,
+    pub(crate) numbers: Vec<i64>,
     lits: Vec<Lit>,
     // An id above the last one has no row yet.
     ghost rows: { length live.near ≤ last + 1 },
@@ -51,7 +51,7 @@ impl Checker {
     ghost use Rattle.proof_check.specs.Logs.{after_all, IsAccepted, IsRefuting, KeepsBounds};
     ghost use Rattle.proof_check.specs.View.{known};
     ghost use Rattle.std.specs.Prelude.{◌≡◌, ◌<◌, ◌^◌, length, None, IfOk, IfErr, OnOk, OnErr, ℕ};
-    ghost use Rattle.std.specs.Prelude.{Bool, List as Items, IsTrue, ◌↔◌, nat_lt, All, false, map};
+    ghost use Rattle.std.specs.Prelude.{Bool, List as Items, IsTrue, ◌↔◌, All, false, map};
     ghost use Rattle.std.specs.Prelude.{unsigned_abs, IsOkAnd};
 
     /// A checker that knows the formula of these clauses over the variables from 1 to `vars`.
@@ -116,28 +116,6 @@ impl Checker {
         Ok(checker)
     }
 
-    /// Hands out the room for the numbers of a line.
-    pub(crate) fn take_numbers(&mut self, alloc: Global) -> Vec<i64>
-        ensures room { result ≡ self.old.numbers }
-        ensures same { known self.new ≡ known self.old }
-    {
-        mem::replace(&mut self.numbers, Vec::new(alloc))
-    }
-
-    /// Takes the room for the numbers of a line back.
-    pub(crate) fn give_numbers(&mut self, numbers: Vec<i64>)
-        ensures { self.new ≡ record self.old { numbers = numbers } }
-    {
-        self.numbers = numbers;
-    }
-
-    /// Whether an id is above every id before it.
-    fn rises(&self, id: u64) -> bool
-        ensures { result ≡ nat_lt self.now.last id }
-    {
-        self.last < id
-    }
-
     /// Adds a clause, which the hints have to show.
     fn add(&mut self, id: u64, lits: &[Lit], hints: &[i64]) -> Result<(), StepFault>
         requires { length hints.now < 2 ^ 32 }
@@ -149,7 +127,7 @@ impl Checker {
             (IsFirst (step_fault (known self.old) (Step.Add id lits.now hints.now))) }
         ensures same { OnErr result (known self.new ≡ known self.old) }
     {
-        if !self.rises(id) {
+        if id <= self.last {
             return Err(StepFault::IdNotRising);
         }
         follow(self.alloc, &self.live, &mut self.marks, lits, hints)?;
@@ -211,7 +189,7 @@ impl Checker {
         ensures fault { IfErr result (IsFirst (step_fault (known self.old) (Step.Bound id price))) }
         ensures same { OnErr result (known self.new ≡ known self.old) }
     {
-        if !self.rises(id) {
+        if id <= self.last {
             return Err(StepFault::IdNotRising);
         }
         if self.least.is_some_and(|least| price < least) {

@@ -16,6 +16,7 @@ use arc_base::{CertKind, List, Memory, first_line};
 use cnf_types::Formula;
 use proof_log::{LineKind, Sign, added, interpret, line_numbers};
 use std::alloc::Global;
+use std::mem;
 
 /// The kind of reason for which a step is not accepted, without its place.
 pub fn fault_kind(fault: StepFault) -> CertKind
@@ -88,14 +89,14 @@ pub fn judge_line(
     ensures after { IfOk result (λ r. IsNone r →
         known checker.new ≡ line_after (reading line.now) (known checker.old)) }
 {
-    let mut numbers = checker.take_numbers(alloc);
+    let mut numbers = mem::replace(&mut checker.numbers, Vec::new(alloc));
     let judged = match line_numbers(&mut numbers, line) {
         Ok(None) => Ok(None),
         Ok(Some(sign)) => judge_numbers(alloc, checker, sign, &numbers),
         Err(LineKind::Memory) => Err(Memory),
         Err(_) => Ok(Some(Rejection::Form)),
     };
-    checker.give_numbers(numbers);
+    checker.numbers = numbers;
     judged
 }
 
