@@ -1,19 +1,14 @@
-//! The judgement of a proof text.
-ghost use Rattle.arc_base.specs.TextLines.{lines};
-ghost use Rattle.cnf_types.specs.Formulas.{Satisfies};
-ghost use Rattle.proof_check.specs.Knowledge.{start};
-ghost use Rattle.proof_check.specs.Outcomes.{fault_kind, line_rejection, line_after, log_outcome};
-ghost use Rattle.proof_check.specs.Outcomes.{IsRefutation};
+//! The judgement of a line of a proof.
+ghost use Rattle.proof_check.specs.Outcomes.{fault_kind, line_rejection, line_after};
 ghost use Rattle.proof_check.specs.View.{known};
 ghost use Rattle.proof_log.specs.Reading.{formed, ok_or_bad_line, reading};
-ghost use Rattle.std.specs.Prelude.{◌≡◌, ℕ, ◌↔◌, [], ◌<◌, ◌^◌, All, Bool, None, IfOk, IsNone};
+ghost use Rattle.std.specs.Prelude.{◌≡◌, ◌<◌, ◌^◌, All, IfOk, IsNone};
 ghost use Rattle.std.specs.Prelude.{unsigned_abs};
 
 use crate::checker::Checker;
 use crate::faults::StepFault;
-use crate::rejections::{Outcome, Rejection};
-use arc_base::{CertKind, List, Memory, first_line};
-use cnf_types::Formula;
+use crate::rejections::Rejection;
+use arc_base::{CertKind, Memory};
 use proof_log::{LineKind, Sign, added, interpret, line_numbers};
 use std::alloc::Global;
 use std::mem;
@@ -98,38 +93,4 @@ pub fn judge_line(
     };
     checker.numbers = numbers;
     judged
-}
-
-/// Judges the lines of a proof.
-fn judge_lines(alloc: Global, f: &Formula, proof: &[u8]) -> Result<Outcome, Memory>
-    ensures { IfOk result (λ o. o ≡ log_outcome (start f.now None []) 1 (lines proof.now)) }
-{
-    let mut checker = Checker::make(alloc, f, None, &List::make(alloc))?;
-    let mut number = 1;
-    let mut rest = proof;
-    while !rest.is_empty() {
-        let (line, after) = first_line(rest);
-        if let Some(rejection) = judge_line(alloc, &mut checker, line)? {
-            return Ok(Outcome::Rejected(number, rejection));
-        }
-        number += 1;
-        rest = after;
-    }
-    if checker.refuted() {
-        Ok(Outcome::Accepted)
-    } else {
-        Ok(Outcome::Rejected(number, Rejection::NotRefuted))
-    }
-}
-
-/// Judges the text of a proof that no assignment satisfies the formula, in time linear in its bytes
-/// and in the literals of the hinted clauses. There are no prices, so each bound is too high. For
-/// callers of the library: `arcv` reads proofs line by line.
-pub fn check_log(alloc: Global, f: &Formula, proof: &[u8]) -> Result<Outcome, Memory>
-    ensures outcome { IfOk result (λ o. o ≡ log_outcome (start f.now None []) 1 (lines proof.now)) }
-    ensures accepted { IfOk result (λ o. (o ≡ Outcome.Accepted) ↔ IsRefutation f.now proof.now) }
-    ensures sound { IfOk result (λ o. o ≡ Outcome.Accepted →
-        (assignment : ℕ → Bool) → Satisfies assignment f.now → ⊥) }
-{
-    judge_lines(alloc, f, proof)
 }

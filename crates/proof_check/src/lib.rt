@@ -18,5 +18,5 @@ mod tables;
 
 pub use checker::Checker;
 pub use faults::StepFault;
-pub use judging::{check_log, fault_kind, judge_line};
+pub use judging::{fault_kind, judge_line};
 pub use rejections::{Outcome, Rejection};
