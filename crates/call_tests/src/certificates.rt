@@ -1,13 +1,9 @@
-//! Texts of edits of one router, with one interface and one packet list, and certificates of them.
+//! Texts of edits of one router, with one interface and one packet list.
 
 use arc_base::{Face, List, ListId, Memory, Name, Prefix, Router};
-use cnf_types::Lit;
-use edit_list::{Claim, Edit};
-use net_model::{
-    Class, Document, FaceRow, Network, PacketList, Protocol, RouterRow, Service, Weights,
-};
-use policy_report::{budget, certificate, edit_line, edit_text};
-use proof_log::{Log, Step};
+use edit_list::Edit;
+use net_model::{Class, FaceRow, Network, PacketList, Protocol, RouterRow, Service};
+use policy_report::{edit_line, edit_text};
 use std::alloc::Global;
 use std::test::Fail;
 
@@ -120,51 +116,5 @@ fn an_edit_has_a_text(rt: HostRuntime) -> Result<(), Fail> {
             "{text}"
         );
     }
-    Ok(())
-}
-
-/// A log of one step.
-fn one_step(alloc: Global) -> Result<Log, Memory> {
-    let step = Step::Add {
-        id: 16,
-        lits: List::of(vec![in alloc; Lit::make(1, false)]?)?,
-        hints: List::of(vec![in alloc; 3]?)?,
-    };
-    Ok(Log {
-        steps: List::of(vec![in alloc; step]?)?,
-    })
-}
-
-/// The certificate that there is no repair.
-fn none(alloc: Global) -> Result<Vec<u8>, Memory> {
-    let doc = Document {
-        routers: List::make(alloc),
-        links: List::make(alloc),
-        policies: List::make(alloc),
-        weights: Weights {
-            list: 1,
-            filter: 1,
-            session: 1,
-        },
-    };
-    let claim = Claim::NoRepair { bound: 32 };
-    let edits = List::make(alloc);
-    certificate(
-        alloc,
-        &network(alloc)?,
-        &doc,
-        &edits,
-        &claim,
-        &one_step(alloc)?,
-    )
-}
-
-#[test]
-fn certificates_are_written(rt: HostRuntime) -> Result<(), Fail> {
-    let alloc = rt.alloc();
-    let text = "arc-repair 1\nanswer none 32\nlog\n16 -1 0 3 0\nend\n";
-    assert!(rt; none(alloc)?.as_slice() == text.as_bytes());
-    let text = "arc-repair 1\nanswer budget 1 32\nlog\n16 -1 0 3 0\nend\n";
-    assert!(rt; budget(alloc, 1, 32, &one_step(alloc)?)?.as_slice() == text.as_bytes());
     Ok(())
 }

@@ -1,5 +1,5 @@
-//! Calls of the crates below, with ample memory: formulas, proofs and searches, stores and sinks,
-//! networks that are worked through by hand, the texts of edits and certificates. They only test.
+//! Calls of the crates below, with ample memory: proofs and searches, stores and sinks, the texts of
+//! edits. They only test.
 //! They are here and not in the crates whose calls they run, so that proving them safe reads those
 //! contracts and does not prove their functions again.
 #![tactic(auto)]
@@ -8,10 +8,6 @@
 mod certificates;
 #[cfg(test)]
 mod cores;
-#[cfg(test)]
-mod models;
-#[cfg(test)]
-mod networks;
 #[cfg(test)]
 mod searches;
 #[cfg(test)]

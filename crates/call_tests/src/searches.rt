@@ -8,9 +8,8 @@ use arc_base::{List, Memory};
 use cnf_types::{Clause, Formula, Lit};
 use proof_check::Checker;
 use proof_log::{Log, Step};
-use run_progress::{Listener, Work};
 use sat_core::Core;
-use sat_search::{Found, search, search_first};
+use sat_search::{Found, search};
 use std::alloc::Global;
 use std::test::Fail;
 
@@ -157,34 +156,6 @@ fn is_accepted(alloc: Global, formula: &Formula, log: &Log) -> Result<bool, Memo
         }
     }
     Ok(true)
-}
-
-/// A listener that keeps the last count of conflicts that it heard of.
-#[derive(Drop)]
-struct Heard {
-    conflicts: u64,
-}
-
-impl Listener for Heard {
-    fn heard(&mut self, work: Work) {
-        if let Work::Searching { conflicts } = work {
-            self.conflicts = conflicts;
-        }
-    }
-}
-
-#[test]
-fn each_hundredth_conflict_is_heard_of(rt: HostRuntime) -> Result<(), Fail> {
-    let alloc = rt.alloc();
-    let Ok((mut core, mut log)) = core_and_log(alloc) else {
-        return Err(Fail::from("memory"));
-    };
-    let mut heard = Heard { conflicts: 0 };
-    if search_first(alloc, &mut core, &[], &mut log, 2000, &mut heard).is_err() {
-        return Err(Fail::from("memory"));
-    }
-    assert_eq!(rt; heard.conflicts, 1500);
-    Ok(())
 }
 
 #[test]

@@ -1,47 +1,10 @@
 //! The texts of formulas and of proofs: what they are read as, their faults, and how proofs are
-//! judged; the steps of proofs, as lines and as they are written.
+//! judged.
 
-use arc_base::{List, Memory};
 use cnf_types::formula;
 use proof_check::check_log;
-use proof_log::{Log, step, text};
 use std::alloc::Global;
 use std::test::Fail;
-
-/// The text of the one step that a line writes.
-fn written_again(alloc: Global, line: &[u8]) -> Result<Vec<u8>, Memory> {
-    let mut steps = List::make(alloc);
-    if let Ok(Some(step)) = step(alloc, line) {
-        steps.push(step)?;
-    }
-    text(alloc, &Log { steps })
-}
-
-/// A line, and what is written for it. The number of a line that drops clauses is that of the
-/// clause that was added last, here of none.
-const LINES: &[(&str, &str)] = &[
-    ("3  1 -20 0 2 -7 0\r", "3 1 -20 0 2 -7 0\n"),
-    ("9223372036854775807 0 1 0", "9223372036854775807 0 1 0\n"),
-    ("3 d 2 4 0", "0 d 2 4 0\n"),
-    ("4 b 9 0", "4 b 9 0\n"),
-    ("c 5 d 1 2 0", ""),
-    (" ", ""),
-    ("3 1 0 2", ""),
-    ("3 b 4294967296 0", ""),
-    ("3 -0 0 1 0", ""),
-    ("9223372036854775808 0 1 0", ""),
-];
-
-#[test]
-fn steps_are_read_and_written(rt: HostRuntime) -> Result<(), Fail> {
-    for (line, want) in LINES {
-        assert!(rt;
-            written_again(rt.alloc(), line.as_bytes())?.as_slice() == want.as_bytes(),
-            "{line}"
-        );
-    }
-    Ok(())
-}
 
 /// What a text is read as; or, if it is a proof that no value of the one variable fits 1 and -1,
 /// how it is judged.
