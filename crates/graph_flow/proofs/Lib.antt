@@ -4,6 +4,7 @@ pub mod Searches
 pub mod Looks
 pub mod OpenArcs
 pub mod UnitArcs
+pub mod GivenArcs
 pub mod Marked
 pub mod Grows
 pub mod Extracts

@@ -68,34 +68,12 @@ row-gives arcs gives node row first arc is l some =
     let in_touching : Contains (touching arcs node) (get_or row first arc) = subst (λ (r : List Arc). Contains r (get_or row first arc)) is in_row in
     filter_map-member gives arcs (get_or row first arc) arc (filter-from (touches node) arcs (get_or row first arc) in_touching) (some arc)
 
--- its head is a node
-pub head-below : (g : Digraph) (carried : Units) (arc : Arc) → IsGraph g → ((link : ℕ) (used : Arc) → unit_at carried link ≡ Some used → Contains g.arcs used) →
-    Contains (residual carried g.arcs) arc → arc.head < g.nodes
-head-below g carried arc is units m =
-    let from : Source g.arcs carried arc = residual-source g.arcs carried arc m in
-    elim from.how [
-      | inl free ↦ let joins : Joins g.nodes from.base = All-contains (Joins g.nodes) g.arcs from.base is.joined from.is_base in
-          subst (λ (x : Arc). x.head < g.nodes) free.1 joins.head_node
-      | inr (used, e, same, turned_is) ↦ let joins : Joins g.nodes used = All-contains (Joins g.nodes) g.arcs used is.joined (units from.base.link.0 used e) in
-          subst (λ (x : Arc). x.head < g.nodes) turned_is joins.tail_node
-    ]
-
 pub or-left : (a b : Bool) → a ≡ true → (a || b) ≡ true
 or-left a b e = ap (λ (x : Bool). x || b) e
 
-or-right : (a b : Bool) → b ≡ true → (a || b) ≡ true
+pub or-right : (a b : Bool) → b ≡ true → (a || b) ≡ true
 or-right true b e = refl
 or-right false b e = e
-
--- an arc of the residual network comes from an arc of the row of its tail
-pub tail-row : (arcs : List Arc) (carried : Units) (arc : Arc) → Contains (residual carried arcs) arc → (base : Arc) × Contains (touching arcs arc.tail) base × (residual_of carried base ≡ Some arc)
-tail-row arcs carried arc m =
-    let from = filter_map-from (residual_of carried) arcs arc m in
-    let touched : touches arc.tail from.0 ≡ true = elim (back_cases (unit_at carried (from.0).link.0) from.0 arc from.2) [
-      | inl free ↦ or-left ((from.0).tail == arc.tail) ((from.0).head == arc.tail) (eq-eqb (from.0).tail arc.tail (ap (λ (x : Arc). x.tail) free.1))
-      | inr (used, e, same, turned_is) ↦ or-right ((from.0).tail == arc.tail) ((from.0).head == arc.tail) (eq-eqb (from.0).head arc.tail (sym same ∙ ap (λ (x : Arc). x.tail) turned_is))
-    ] in
-    (from.0, filter-member (touches arc.tail) arcs from.0 from.1 touched, from.2)
 
 pub any-default : (gives : Arc → Option Arc) (row : List Arc) (first : ℕ) (d : Arc) (o : Option Arc) → first < length row → gives (get_or row first d) ≡ o →
     (e : Arc) → gives (get_or row first e) ≡ o
@@ -117,24 +95,6 @@ row-joins g node row first d is row_is l =
 pub row-head : (g : Digraph) (node : ℕ) (row : List Arc) (first : ℕ) (d : Arc) (n : ℕ) → IsGraph g → row ≡ touching g.arcs node → first < length row → n ≡ g.nodes →
     (get_or row first d).head < n
 row-head g node row first d n is row_is l nodes = let joins : Joins g.nodes (get_or row first d) = row-joins g node row first d is row_is l in omega (arith, joins.head_node, nodes)
-
--- what an arc gives that leads from the node to one that was seen does not lead elsewhere
-next-behind : (carried : Units) (arc next : Arc) (node : ℕ) (marks : List Mark) → arc.tail ≢ arc.head → arc.tail ≡ node → Seen marks arc.head →
-    residual_of carried arc ≡ Some next → next.tail ≡ node → Seen marks next.head
-next-behind carried arc next node marks apart from seen e at =
-    elim (back_cases (unit_at carried arc.link.0) arc next e) [
-      | inl free ↦ subst (λ (x : Arc). Seen marks x.head) free.1 seen
-      | inr (used, on, same, turned_is) ↦ absurd (apart (from ∙ sym at ∙ sym (ap (λ (x : Arc). x.tail) turned_is) ∙ same))
-    ]
-
-pub stays-behind : (carried : Units) (arc : Arc) (node : ℕ) (marks : List Mark) (queue : List ℕ) (count : ℕ) → arc.tail ≢ arc.head → arc.tail ≡ node →
-    Seen marks arc.head → Steps (residual_of carried arc) marks queue count node marks queue count
-stays-behind carried arc node marks queue count apart from seen =
-    elim (none_or_some (residual_of carried arc)) [
-      | inl none ↦ subst (λ (o : Option Arc). Steps o marks queue count node marks queue count) (sym none) (refl, refl, refl)
-      | inr (next, e) ↦ subst (λ (o : Option Arc). Steps o marks queue count node marks queue count) (sym e)
-          (inl (record { seen = next-behind carried arc next node marks apart from seen e; same_marks = refl; same_queue = refl; same_count = refl }))
-    ]
 
 -- the search after it followed what an arc of the row gives, if it gives one
 pub looking-steps : (arcs : List Arc) (gives : Arc → Option Arc) (s : ℕ) (marks : List Mark) (queue : List ℕ) (count looked node : ℕ) (row : List Arc) (first : ℕ) (d : Arc)

@@ -17,21 +17,6 @@ use Rattle.graph_flow.proofs.Extracts.{if-arc}
 pub open-is : (table : List OpenLink) (arc found : Arc) → open_of table arc ≡ Some found → (is_open_way (row_of table arc.link.0) arc.tail arc.head ≡ true) × (arc ≡ found)
 open-is table arc found e = if-arc (is_open_way (row_of table arc.link.0) arc.tail arc.head) arc found e
 
--- and comes from the row of its tail
-pub open-row : (arcs : List Arc) (table : List OpenLink) (arc : Arc) → Contains (open_arcs table arcs) arc → (base : Arc) × Contains (touching arcs arc.tail) base × (open_of table base ≡ Some arc)
-open-row arcs table arc m =
-    let from = filter_map-from (open_of table) arcs arc m in
-    let same : from.0 ≡ arc = (open-is table from.0 arc from.2).1 in
-    let touched : touches arc.tail from.0 ≡ true = or-left ((from.0).tail == arc.tail) ((from.0).head == arc.tail) (eq-eqb (from.0).tail arc.tail (ap (λ (x : Arc). x.tail) same)) in
-    (from.0, filter-member (touches arc.tail) arcs from.0 from.1 touched, from.2)
-
--- its head is a node
-pub open-head : (g : Digraph) (table : List OpenLink) (arc : Arc) → IsGraph g → Contains (open_arcs table g.arcs) arc → arc.head < g.nodes
-open-head g table arc is m =
-    let from = filter_map-from (open_of table) g.arcs arc m in
-    let joins : Joins g.nodes from.0 = All-contains (Joins g.nodes) g.arcs from.0 is.joined from.1 in
-    subst (λ (x : Arc). x.head < g.nodes) (open-is table from.0 arc from.2).1 joins.head_node
-
 -- an arc is among the open ones exactly where it is among all, and is open
 pub from-open : (table : List OpenLink) (arcs : List Arc) (arc : Arc) → Contains (open_arcs table arcs) arc → Contains arcs arc × (is_open_way (row_of table arc.link.0) arc.tail arc.head ≡ true)
 from-open table arcs arc m =

@@ -20,37 +20,19 @@ use Rattle.graph_flow.proofs.Looks.{or-left}
 use Rattle.graph_flow.proofs.Extracts.{if-arc, no-arc, passable-unit, unit-passable, first-way}
 
 -- what an arc that carries a unit is given as
-record IsLadenArc (o : Option Arc) (first arc found : Arc) : Type 0 where
-  used : Arc
-  on : o ≡ Some used
-  head : used.head ≡ arc.head
-  may : may_pass first arc ≡ true
-  same : arc ≡ found
+pub record IsLadenArc (o : Option Arc) (first arc found : Arc) : Type 0 where
+  pub used : Arc
+  pub on : o ≡ Some used
+  pub head : used.head ≡ arc.head
+  pub may : may_pass first arc ≡ true
+  pub same : arc ≡ found
 
-laden-is : (o : Option Arc) (first arc found : Arc) → laden_arc o first arc ≡ Some found → IsLadenArc o first arc found
+pub laden-is : (o : Option Arc) (first arc found : Arc) → laden_arc o first arc ≡ Some found → IsLadenArc o first arc found
 laden-is None first arc found e = absurd (no-arc found e)
 laden-is (Some used) first arc found e =
     let parts = if-arc ((used.head == arc.head) && may_pass first arc) arc found e in
     let both = and_parts (used.head == arc.head) (may_pass first arc) parts.0 in
     record { used = used; on = refl; head = eqb-true used.head arc.head both.0; may = both.1; same = parts.1 }
-
--- it comes from the row of its tail
-pub unit-row : (arcs : List Arc) (units : Units) (first arc : Arc) → Contains (filter_map (unit_of units first) arcs) arc →
-    (base : Arc) × Contains (touching arcs arc.tail) base × (unit_of units first base ≡ Some arc)
-unit-row arcs units first arc m =
-    let from = filter_map-from (unit_of units first) arcs arc m in
-    let is : IsLadenArc (unit_at units (from.0).link.0) first from.0 arc = laden-is (unit_at units (from.0).link.0) first from.0 arc from.2 in
-    let touched : touches arc.tail from.0 ≡ true =
-    or-left ((from.0).tail == arc.tail) ((from.0).head == arc.tail) (eq-eqb (from.0).tail arc.tail (ap (λ (x : Arc). x.tail) is.same)) in
-    (from.0, filter-member (touches arc.tail) arcs from.0 from.1 touched, from.2)
-
--- its head is a node
-pub unit-head : (g : Digraph) (units : Units) (first arc : Arc) → IsGraph g → Contains (filter_map (unit_of units first) g.arcs) arc → arc.head < g.nodes
-unit-head g units first arc graph m =
-    let from = filter_map-from (unit_of units first) g.arcs arc m in
-    let is : IsLadenArc (unit_at units (from.0).link.0) first from.0 arc = laden-is (unit_at units (from.0).link.0) first from.0 arc from.2 in
-    let joins : Joins g.nodes from.0 = All-contains (Joins g.nodes) g.arcs from.0 graph.joined from.1 in
-    subst (λ (x : Arc). x.head < g.nodes) is.same joins.head_node
 
 -- the arcs of one link with one head are one
 one-arc : (g : Digraph) (a b : Arc) → IsGraph g → Contains g.arcs a → Contains g.arcs b → a.link.0 ≡ b.link.0 → a.head ≡ b.head → a ≡ b

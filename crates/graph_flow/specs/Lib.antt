@@ -9,3 +9,4 @@ pub mod Adjacency
 pub mod Kept
 pub mod Answers
 pub mod Needed
+pub mod SearchedArcs

@@ -9,6 +9,7 @@ ghost use Rattle.std.specs.Prelude.{List, ◌↔◌, ◌^◌, slice_index_or, re
 use crate::arcs::{Arc, LinkRow2, OpenLink};
 use crate::graph::Graph;
 use crate::search::{Mark, Search};
+use crate::searched_arcs::Ways;
 use arc_base::{List, Memory};
 use std::alloc::Global;
 use std::marker::Model;
@@ -54,7 +55,7 @@ impl Closure {
         ensures paths { (node : ℕ) (links : List Link) →
             slice_index_or self.new node None ≡ Some links → IsArcPath g.now.arcs from links node }
     {
-        self.search.run(g, &[], from);
+        self.search.run(g, Ways::Room(&[]), from);
     }
 
     /// Reaches the nodes to which paths of open arcs lead from a node, and no others. It takes no
@@ -70,7 +71,7 @@ impl Closure {
             slice_index_or self.new node None ≡ Some links →
             IsArcPath (open_arcs table.now g.now.arcs) from links node }
     {
-        self.search.run_open(g, table, from);
+        self.search.run(g, Ways::Open(table), from);
     }
 
     /// Whether a path leads to the node.

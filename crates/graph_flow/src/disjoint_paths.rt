@@ -37,10 +37,11 @@ pub fn disjoint(alloc: Global, g: &Graph, s: u32, t: u32, want: u32) -> Result<F
     let mut flow = Flow::make(alloc, g)?;
     if fill(&mut flow, g, s, t, want) {
         let mut units = flow.into_units();
-        Ok(FlowAnswer::Paths(into_paths(alloc, g, &mut units, s, t)?))
-    } else {
-        cut(alloc, g, flow, s, t, want)
+        return Ok(FlowAnswer::Paths(into_paths(alloc, g, &mut units, s, t)?));
     }
+    let side = flags(alloc, &flow, g.nodes())?;
+    let links = links_out(alloc, &flow.into_units(), side.slice())?;
+    Ok(FlowAnswer::Cut(links, side))
 }
 
 /// Grows a flow until it has `want` units, and answers whether it has.
@@ -64,36 +65,6 @@ fn fill(flow: &mut Flow, g: &Graph, s: u32, t: u32, want: u32) -> bool
         }
     }
     true
-}
-
-/// The cut that a greatest flow shows.
-fn cut(
-    alloc: Global,
-    g: &Graph,
-    flow: Flow,
-    s: u32,
-    t: u32,
-    want: u32,
-) -> Result<FlowAnswer, Memory>
-    requires source { s < g.now.nodes }
-    requires target { t < g.now.nodes }
-    requires apart { s ≢ t }
-    requires room { IsMadeFor g.now flow }
-    requires flow { IsFlow g.now.arcs s t (leaving flow.units s) flow.units }
-    requires fewer { leaving flow.units s < want }
-    requires side { EndsAt g.now.arcs s t (leaving flow.units s) flow.units flow.reached }
-    ensures paths { IfOk result (λ answer. IfPaths answer (λ paths. ⊥)) }
-    ensures cut { IfOk result (λ answer.
-        IfCut answer (λ links side. IsLeastSide g.now.arcs s t (flagged side) links)) }
-    ensures fewer { IfOk result (λ answer. IfCut answer (λ links side. length links < want)) }
-    ensures flags { IfOk result (λ answer. IfCut answer (λ links side. length side ≡ g.now.nodes)) }
-    ensures only_then { IfOk result (λ answer.
-        IfCut answer (λ links side. HavePaths g.now.arcs s t want → ⊥)) }
-{
-    let side = flags(alloc, &flow, g.nodes())?;
-    let units = flow.into_units();
-    let links = links_out(alloc, &units, side.slice())?;
-    Ok(FlowAnswer::Cut(links, side))
 }
 
 /// For each node whether it is on the side.

@@ -10,6 +10,7 @@ use crate::arcs::Arc;
 use crate::graph::Graph;
 use crate::residual::turn;
 use crate::search::{Mark, Search};
+use crate::searched_arcs::Ways;
 use arc_base::Memory;
 use std::alloc::Global;
 use std::marker::Model;
@@ -66,7 +67,7 @@ impl Flow {
         ensures room { IsMadeFor g.now self.new }
     {
         prove!(t < g.nodes());
-        self.search.seek(g, &self.units, s, t);
+        self.search.seek(g, Ways::Room(&self.units), s, t);
         if !self.search.is_seen(t) {
             return false;
         }

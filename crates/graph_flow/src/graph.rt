@@ -2,7 +2,7 @@
 ghost use Rattle.graph_flow.specs.Paths.{Joins, MayShare, IsGraph, Digraph};
 ghost use Rattle.graph_flow.specs.Residual.{touching, with_arc};
 ghost use Rattle.std.specs.Prelude.{◌≡◌, ◌≢◌, ◌<◌, ◌^◌, [], ◌∷◌, ◌++◌, length, IfOk, OnOk, OnErr};
-ghost use Rattle.std.specs.Prelude.{All, IsTrue, ◌↔◌};
+ghost use Rattle.std.specs.Prelude.{All};
 
 use crate::arcs::Arc;
 use crate::row::Row;
@@ -45,16 +45,6 @@ impl Graph {
             rows,
             links: 0,
         })
-    }
-
-    /// Whether an arc can be added: it leads from a node to another, and its link has at most the
-    /// opposite arc yet.
-    /// It looks at all arcs.
-    pub fn has_place(&self, arc: &Arc) -> bool
-        ensures { IsTrue result ↔
-            (Joins self.now.nodes arc.now × All (λ other. MayShare other arc.now) self.now.arcs) }
-    {
-        joins(self.rows.len(), arc) && may_share_all(&self.arcs, arc)
     }
 
     /// Adds an arc. A link may have one arc in each direction.
@@ -115,31 +105,4 @@ fn add(rows: &mut [Row], arc: Arc) -> Result<(), Memory>
             Err(error)
         }
     }
-}
-
-/// Whether the arc's ends are nodes of the graph.
-fn joins(nodes: usize, arc: &Arc) -> bool
-    ensures { IsTrue result ↔ Joins nodes arc.now }
-{
-    let (tail, head) = (arc.tail as usize, arc.head as usize);
-    tail < nodes && head < nodes && tail != head
-}
-
-/// Whether an arc may be beside each of the others.
-fn may_share_all(others: &[Arc], arc: &Arc) -> bool
-    ensures { IsTrue result ↔ All (λ other. MayShare other arc.now) others.now }
-{
-    for other in others {
-        if !may_share(other, arc) {
-            return false;
-        }
-    }
-    true
-}
-
-/// Whether two arcs are of different links, or opposite arcs of one link.
-fn may_share(a: &Arc, b: &Arc) -> bool
-    ensures { IsTrue result ↔ MayShare a.now b.now }
-{
-    a.link.0 != b.link.0 || (a.tail == b.head && a.head == b.tail)
 }

@@ -14,11 +14,10 @@ mod flow;
 mod graph;
 pub mod laws;
 mod needed;
-mod open_links;
-mod part_search;
 mod residual;
 mod row;
 mod search;
+mod searched_arcs;
 mod units;
 
 pub use answer::FlowAnswer;

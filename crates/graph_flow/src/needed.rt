@@ -13,6 +13,7 @@ use crate::closure::arcs_back;
 use crate::flow::send;
 use crate::graph::Graph;
 use crate::search::Search;
+use crate::searched_arcs::Ways;
 use arc_base::{Link, List, Memory};
 use std::alloc::Global;
 
@@ -24,7 +25,7 @@ pub fn needed_links(alloc: Global, g: &Graph, s: u32, t: u32) -> Result<Option<L
     ensures { IfOk result (IsNeededAnswer g.now.arcs s t) }
 {
     let mut search = Search::make(alloc, g.nodes())?;
-    search.run(g, &[], s);
+    search.run(g, Ways::Room(&[]), s);
     if !search.is_seen(t) {
         return Ok(None);
     }
@@ -62,7 +63,7 @@ fn needed_units(
     let mut carried = no_units(alloc, g)?;
     let mut needed = no_units(alloc, g)?;
     send(&mut carried, &search.marks, t);
-    let mut count = search.run(g, &carried, s);
+    let mut count = search.run(g, Ways::Room(&carried), s);
     while let Some(arc) = back.pop() {
         if !search.is_seen(arc.head) {
             count = search.widen(g, &mut carried, s, arc, count);

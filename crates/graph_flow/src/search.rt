@@ -1,17 +1,18 @@
-//! Breadth-first search for what can be reached over links that have room, in time linear in nodes
+//! Breadth-first search for what can be reached over some of a graph's arcs, in time linear in nodes
 //! and arcs.
 ghost use Rattle.graph_flow.specs.Flows.{unit_at};
 ghost use Rattle.graph_flow.specs.Marks.{is_seen, depth_of, mark_at, IsMarked, IsSpread, IsSearch};
 ghost use Rattle.graph_flow.specs.Marks.{Follows, Steps};
 ghost use Rattle.graph_flow.specs.Paths.{IsGraph};
-ghost use Rattle.graph_flow.specs.Residual.{residual, residual_of};
+ghost use Rattle.graph_flow.specs.Residual.{residual};
+ghost use Rattle.graph_flow.specs.SearchedArcs.{AreWays, arcs_by, gives};
 ghost use Rattle.graph_flow.specs.declared.arcs.Arc.{Arc};
 ghost use Rattle.std.specs.Prelude.{◌≡◌, ◌≢◌, ◌≤◌, ◌<◌, ◌+◌, ◌^◌, IfOk, IsTrue, IsFalse, replicate};
 ghost use Rattle.std.specs.Prelude.{List, vec_len, ℕ, Contains, Some, None, slice_set};
 
 use crate::arcs::Arc;
 use crate::graph::Graph;
-use crate::residual::residual_of;
+use crate::searched_arcs::Ways;
 use arc_base::Memory;
 use std::alloc::Global;
 
@@ -51,65 +52,43 @@ impl Search {
         !matches!(self.marks[node as usize], Mark::Unseen)
     }
 
-    /// Looks for all nodes to which a way leads over arcs that have room for one more unit, and
-    /// answers how many they are.
-    pub(crate) fn run(&mut self, g: &Graph, carried: &[Option<Arc>], from: u32) -> usize
+    /// Looks for all nodes to which a way leads, and answers how many they are.
+    pub(crate) fn run(&mut self, g: &Graph, ways: Ways<'_>, from: u32) -> usize
         requires from { from < g.now.nodes }
         requires marks { vec_len self.old.marks ≡ g.now.nodes }
         requires queue { vec_len self.old.queue ≡ g.now.nodes }
-        requires units { (link : ℕ) (arc : Arc) → unit_at carried.now link ≡ Some arc →
-            Contains g.now.arcs arc }
-        ensures spread { IsSpread (residual carried.now g.now.arcs) from self.new.marks.items }
-        ensures search { IsSearch (residual carried.now g.now.arcs) from self.new.marks.items
+        requires ways { AreWays g.now.arcs ways }
+        ensures spread { IsSpread (arcs_by ways.entry g.now.arcs) from self.new.marks.items }
+        ensures search { IsSearch (arcs_by ways.entry g.now.arcs) from self.new.marks.items
             self.new.queue.items result result }
         ensures marks { vec_len self.new.marks ≡ vec_len self.old.marks }
         ensures queue { vec_len self.new.queue ≡ vec_len self.old.queue }
     {
         self.begin(from);
-        self.close(g, carried, from, 0, 1)
+        self.close(g, ways, from, 0, 1)
     }
 
-    /// Looks for a way to a node over arcs that have room for one more unit, and stops once it has
-    /// found one.
-    pub(crate) fn seek(&mut self, g: &Graph, carried: &[Option<Arc>], from: u32, to: u32)
+    /// Looks for a way to a node, and stops once it has found one.
+    pub(crate) fn seek(&mut self, g: &Graph, ways: Ways<'_>, from: u32, to: u32)
         requires from { from < g.now.nodes }
         requires to { to < g.now.nodes }
         requires marks { vec_len self.old.marks ≡ g.now.nodes }
         requires queue { vec_len self.old.queue ≡ g.now.nodes }
-        requires units { (link : ℕ) (arc : Arc) → unit_at carried.now link ≡ Some arc →
-            Contains g.now.arcs arc }
-        ensures marked { IsMarked (residual carried.now g.now.arcs) from self.new.marks.items }
+        requires ways { AreWays g.now.arcs ways }
+        ensures marked { IsMarked (arcs_by ways.entry g.now.arcs) from self.new.marks.items }
         ensures spread { IsFalse (is_seen (mark_at self.new.marks.items to)) →
-            IsSpread (residual carried.now g.now.arcs) from self.new.marks.items }
+            IsSpread (arcs_by ways.entry g.now.arcs) from self.new.marks.items }
         ensures marks { vec_len self.new.marks ≡ vec_len self.old.marks }
         ensures queue { vec_len self.new.queue ≡ vec_len self.old.queue }
     {
         self.begin(from);
-        self.approach(g, carried, from, to);
-    }
-
-    /// Looks at the nodes of the queue, of which there is one, until a node has been found.
-    fn approach(&mut self, g: &Graph, carried: &[Option<Arc>], from: u32, to: u32)
-        requires to { to < g.now.nodes }
-        requires marks { vec_len self.old.marks ≡ g.now.nodes }
-        requires queue { vec_len self.old.queue ≡ g.now.nodes }
-        requires units { (link : ℕ) (arc : Arc) → unit_at carried.now link ≡ Some arc →
-            Contains g.now.arcs arc }
-        requires search { IsSearch (residual carried.now g.now.arcs) from self.old.marks.items
-            self.old.queue.items 1 0 }
-        ensures marked { IsMarked (residual carried.now g.now.arcs) from self.new.marks.items }
-        ensures spread { IsFalse (is_seen (mark_at self.new.marks.items to)) →
-            IsSpread (residual carried.now g.now.arcs) from self.new.marks.items }
-        ensures marks { vec_len self.new.marks ≡ vec_len self.old.marks }
-        ensures queue { vec_len self.new.queue ≡ vec_len self.old.queue }
-    {
         let mut count = 1;
         let mut looked = 0;
         while looked < count {
             if self.is_seen(to) {
                 return;
             }
-            count = self.look(g, carried, from, looked, count);
+            count = self.look(g, ways, from, looked, count);
             looked += 1;
         }
     }
@@ -145,26 +124,18 @@ impl Search {
     {
         carried[arc.link.0 as usize] = None;
         let more = self.follow(arc, arc.tail, count);
-        self.close(g, carried, from, count, more)
+        self.close(g, Ways::Room(carried), from, count, more)
     }
 
     /// Looks at the nodes of the queue from a place on, and answers how many it has in the end.
-    fn close(
-        &mut self,
-        g: &Graph,
-        carried: &[Option<Arc>],
-        from: u32,
-        looked: usize,
-        count: usize,
-    ) -> usize
+    fn close(&mut self, g: &Graph, ways: Ways<'_>, from: u32, looked: usize, count: usize) -> usize
         requires place { looked ≤ count }
         requires marks { vec_len self.old.marks ≡ g.now.nodes }
         requires queue { vec_len self.old.queue ≡ g.now.nodes }
-        requires units { (link : ℕ) (arc : Arc) → unit_at carried.now link ≡ Some arc →
-            Contains g.now.arcs arc }
-        requires search { IsSearch (residual carried.now g.now.arcs) from self.old.marks.items
+        requires ways { AreWays g.now.arcs ways }
+        requires search { IsSearch (arcs_by ways g.now.arcs) from self.old.marks.items
             self.old.queue.items count looked }
-        ensures search { IsSearch (residual carried.now g.now.arcs) from self.new.marks.items
+        ensures search { IsSearch (arcs_by ways.entry g.now.arcs) from self.new.marks.items
             self.new.queue.items result result }
         ensures marks { vec_len self.new.marks ≡ vec_len self.old.marks }
         ensures queue { vec_len self.new.queue ≡ vec_len self.old.queue }
@@ -172,7 +143,7 @@ impl Search {
         let mut count = count;
         let mut looked = looked;
         while looked < count {
-            count = self.look(g, carried, from, looked, count);
+            count = self.look(g, ways, from, looked, count);
             looked += 1;
         }
         count
@@ -195,22 +166,14 @@ impl Search {
     }
 
     /// Looks at the arcs of one node of the queue, and answers how many nodes the queue then has.
-    fn look(
-        &mut self,
-        g: &Graph,
-        carried: &[Option<Arc>],
-        from: u32,
-        looked: usize,
-        count: usize,
-    ) -> usize
+    fn look(&mut self, g: &Graph, ways: Ways<'_>, from: u32, looked: usize, count: usize) -> usize
         requires place { looked < count }
         requires marks { vec_len self.old.marks ≡ g.now.nodes }
         requires queue { vec_len self.old.queue ≡ g.now.nodes }
-        requires units { (link : ℕ) (arc : Arc) → unit_at carried.now link ≡ Some arc →
-            Contains g.now.arcs arc }
-        requires search { IsSearch (residual carried.now g.now.arcs) from self.old.marks.items
+        requires ways { AreWays g.now.arcs ways }
+        requires search { IsSearch (arcs_by ways g.now.arcs) from self.old.marks.items
             self.old.queue.items count looked }
-        ensures search { IsSearch (residual carried.now g.now.arcs) from self.new.marks.items
+        ensures search { IsSearch (arcs_by ways.entry g.now.arcs) from self.new.marks.items
             self.new.queue.items result (looked + 1) }
         ensures more { count ≤ result }
         ensures marks { vec_len self.new.marks ≡ vec_len self.old.marks }
@@ -219,17 +182,17 @@ impl Search {
         let node = self.queue[looked];
         let mut count = count;
         for arc in g.touching(node) {
-            count = self.step(carried, arc, node, count);
+            count = self.step(ways, arc, node, count);
         }
         count
     }
 
     /// Follows what an arc gives that begins or ends at the node. Mostly it leads to a node that
     /// was seen before, which is found without a look at what its link carries.
-    fn step(&mut self, carried: &[Option<Arc>], arc: &Arc, node: u32, count: usize) -> usize
+    fn step(&mut self, ways: Ways<'_>, arc: &Arc, node: u32, count: usize) -> usize
         requires apart { arc.now.tail ≢ arc.now.head }
         requires within { arc.now.head < vec_len self.old.marks }
-        requires head { (next : Arc) → residual_of carried.now arc.now ≡ Some next →
+        requires head { (next : Arc) → gives ways arc.now ≡ Some next →
             next.head < vec_len self.old.marks }
         requires node { IsTrue (is_seen (mark_at self.old.marks.items node)) }
         requires shallow { depth_of (mark_at self.old.marks.items node) < count }
@@ -237,44 +200,18 @@ impl Search {
         requires few { vec_len self.old.marks < 2 ^ 32 }
         requires room { (head : ℕ) → head < vec_len self.old.marks →
             IsFalse (is_seen (mark_at self.old.marks.items head)) → count < vec_len self.old.queue }
-        ensures steps { Steps (residual_of carried.now arc.now) self.old.marks.items
+        ensures steps { Steps (gives ways.entry arc.now) self.old.marks.items
             self.old.queue.items count node self.new.marks.items self.new.queue.items result }
         ensures marks { vec_len self.new.marks ≡ vec_len self.old.marks }
         ensures queue { vec_len self.new.queue ≡ vec_len self.old.queue }
     {
-        if self.is_behind(arc, node) {
+        if arc.tail == node && self.is_seen(arc.head) {
             return count;
         }
-        self.follow_some(residual_of(carried, arc), node, count)
-    }
-
-    /// Follows the arc, if there is one.
-    pub(crate) fn follow_some(&mut self, next: Option<Arc>, node: u32, count: usize) -> usize
-        requires head { (arc : Arc) → next ≡ Some arc → arc.head < vec_len self.old.marks }
-        requires node { IsTrue (is_seen (mark_at self.old.marks.items node)) }
-        requires shallow { depth_of (mark_at self.old.marks.items node) < count }
-        requires queue { vec_len self.old.queue ≡ vec_len self.old.marks }
-        requires few { vec_len self.old.marks < 2 ^ 32 }
-        requires room { (head : ℕ) → head < vec_len self.old.marks →
-            IsFalse (is_seen (mark_at self.old.marks.items head)) → count < vec_len self.old.queue }
-        ensures steps { Steps next self.old.marks.items self.old.queue.items count node
-            self.new.marks.items self.new.queue.items result }
-        ensures marks { vec_len self.new.marks ≡ vec_len self.old.marks }
-        ensures queue { vec_len self.new.queue ≡ vec_len self.old.queue }
-    {
-        match next {
-            Some(arc) => self.follow(arc, node, count),
+        match ways.over(arc) {
+            Some(next) => self.follow(next, node, count),
             None => count,
         }
-    }
-
-    /// Whether the arc leads from the node to one that was seen.
-    fn is_behind(&self, arc: &Arc, node: u32) -> bool
-        requires { arc.now.head < vec_len self.now.marks }
-        ensures { IsTrue result →
-            (arc.now.tail ≡ node) × IsTrue (is_seen (mark_at self.now.marks.items arc.now.head)) }
-    {
-        arc.tail == node && self.is_seen(arc.head)
     }
 
     /// Adds the head of an arc to the queue, where the arc leads from the node and its head was

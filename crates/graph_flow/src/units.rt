@@ -9,6 +9,7 @@ use crate::arcs::{Arc, LinkRow2};
 use crate::closure::{arcs_back, turned_round};
 use crate::graph::Graph;
 use crate::search::Search;
+use crate::searched_arcs::Ways;
 use arc_base::{Link, List, Memory};
 use std::alloc::Global;
 
@@ -71,7 +72,7 @@ fn take_path(
     ensures queue { vec_len search.new.queue ≡ g.now.nodes }
 {
     prove!(t < g.nodes());
-    search.seek_units(g, units, &first, t);
+    search.seek(g, Ways::Units(units, first), first.tail, t);
     let back = arcs_back(alloc, &search.marks, t)?;
     let path = turned_round(alloc, back)?;
     clear(units, path.links.slice());

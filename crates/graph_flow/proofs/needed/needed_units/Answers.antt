@@ -42,8 +42,8 @@ send-requires-clause-links c at arc depth e =
     subst (λ (units : Units). arc.link.0 < length units) (sym c.deref_mut.ensures.value)
     (All-contains (λ (a : Arc). a.link.0 < length c.in_ok-carried.carried.items) c.args.g.now.arcs arc c.in_ok-carried.ensures.room is_arc)
 
-pub run-count-requires-clause-units : goal.run-count-requires-clause-units
-run-count-requires-clause-units c link arc e =
+pub run-count-requires-clause-ways : goal.run-count-requires-clause-ways
+run-count-requires-clause-ways c link arc e =
     let size : length c.send.new.units ≡ c.in_ok-carried.carried.len = omega arith in
     let now = with_items_is c.in_ok-carried.carried c.send.new.units size ∙ c.send.ensures ∙ ap (λ (units : Units). sent units (way_to c.deref-2.result.now c.args.t)) c.deref_mut.ensures.value
     ∙ ap (λ (marks : List Mark). sent c.in_ok-carried.carried.items (way_to marks c.args.t)) c.deref-2.ensures.value in

@@ -1,11 +1,11 @@
 use Rattle.std.proofs.Common.{◌≡◌, ◌≤◌, ◌-◌, vec_len}
-use Rattle.graph_flow.specs.Residual.{residual}
+use Rattle.graph_flow.specs.SearchedArcs.{arcs_by}
 use Rattle.graph_flow.specs.Marks.{IsSearch}
 use Rattle.graph_flow.proofs.search.Search.close.Given as goal
 
 abbrev pub invariant-loop-looked : goal.invariant-loop-looked
 invariant-loop-looked l = record {
-  search : IsSearch (residual l.carried l.g.arcs) l.from l.self.marks.items l.self.queue.items l.count l.looked;
+  search : IsSearch (arcs_by l.ways l.g.arcs) l.from l.self.marks.items l.self.queue.items l.count l.looked;
   within : l.looked ≤ l.count;
   marks : vec_len l.self.marks ≡ l.g.nodes;
   queue : vec_len l.self.queue ≡ l.g.nodes;

@@ -1,8 +1,9 @@
 use Rattle.std.proofs.Common.{◌<◌, length, Some, ◌∙◌, sym, arith}
 use Rattle.std.proofs.lemmas.List.{get_or_default}
-use Rattle.graph_flow.specs.Residual.{residual_of}
+use Rattle.graph_flow.specs.SearchedArcs.{gives}
 use Rattle.graph_flow.proofs.Searches.{seen-node, count-fits, count-room}
-use Rattle.graph_flow.proofs.Looks.{row-joins, row-head, row-gives, head-below, tail-row, any-default, looking-steps, looked-all}
+use Rattle.graph_flow.proofs.GivenArcs.{head-below, tail-row}
+use Rattle.graph_flow.proofs.Looks.{row-joins, row-head, row-gives, any-default, looking-steps, looked-all}
 use Rattle.graph_flow.proofs.search.Search.look.Goals as goal
 
 pub index-node-requires : goal.index-node-requires
@@ -41,10 +42,10 @@ step-count-requires-clause-within c =
 
 pub step-count-requires-clause-head : goal.step-count-requires-clause-head
 step-count-requires-clause-head c next e =
-    let some = any-default (residual_of c.args.carried.now) c.touching-arc-items.result.now c.loop-arc.arc-index _ (Some next) c.loop-arc-test.true e in
-    let in_residual = row-gives c.args.g.now.arcs (residual_of c.args.carried.now) c.index-node.result.now c.touching-arc-items.result.now c.loop-arc.arc-index next
+    let some = any-default (gives c.args.ways) c.touching-arc-items.result.now c.loop-arc.arc-index _ (Some next) c.loop-arc-test.true e in
+    let in_given = row-gives c.args.g.now.arcs (gives c.args.ways) c.index-node.result.now c.touching-arc-items.result.now c.loop-arc.arc-index next
     c.touching-arc-items.ensures.arcs c.loop-arc-test.true some in
-    omega (arith, head-below c.args.g.now c.args.carried.now next c.touching-arc-items.ensures.graph c.requires.units in_residual, c.loop-arc.invariant.marks)
+    omega (arith, head-below c.args.g.now c.args.ways next c.touching-arc-items.ensures.graph c.requires.ways in_given, c.loop-arc.invariant.marks)
 
 pub step-count-requires-clause-room : goal.step-count-requires-clause-room
 step-count-requires-clause-room c head low unseen =
@@ -52,14 +53,14 @@ step-count-requires-clause-room c head low unseen =
 
 pub loop-arc-preserved : goal.loop-arc-preserved
 loop-arc-preserved c =
-    let both = looking-steps c.args.g.now.arcs (residual_of c.args.carried.now) c.args.from c.loop-arc.self.marks.items c.loop-arc.self.queue.items c.loop-arc.count c.args.looked
+    let both = looking-steps c.args.g.now.arcs (gives c.args.ways) c.args.from c.loop-arc.self.marks.items c.loop-arc.self.queue.items c.loop-arc.count c.args.looked
     c.index-node.result.now c.touching-arc-items.result.now c.loop-arc.arc-index _ c.step-count.new.self.marks.items c.step-count.new.self.queue.items c.step-count.result
     c.loop-arc.invariant.looking c.loop-arc-test.true c.touching-arc-items.ensures.arcs (omega (arith, c.loop-arc.invariant.marks, c.loop-arc.invariant.queue))
     (λ next e.
-    let some = any-default (residual_of c.args.carried.now) c.touching-arc-items.result.now c.loop-arc.arc-index _ (Some next) c.loop-arc-test.true e in
-    let in_residual = row-gives c.args.g.now.arcs (residual_of c.args.carried.now) c.index-node.result.now c.touching-arc-items.result.now c.loop-arc.arc-index next
+    let some = any-default (gives c.args.ways) c.touching-arc-items.result.now c.loop-arc.arc-index _ (Some next) c.loop-arc-test.true e in
+    let in_given = row-gives c.args.g.now.arcs (gives c.args.ways) c.index-node.result.now c.touching-arc-items.result.now c.loop-arc.arc-index next
     c.touching-arc-items.ensures.arcs c.loop-arc-test.true some in
-    omega (arith, head-below c.args.g.now c.args.carried.now next c.touching-arc-items.ensures.graph c.requires.units in_residual, c.loop-arc.invariant.marks))
+    omega (arith, head-below c.args.g.now c.args.ways next c.touching-arc-items.ensures.graph c.requires.ways in_given, c.loop-arc.invariant.marks))
     c.step-count.ensures.steps in
     record {
       looking = both.0;
@@ -69,5 +70,5 @@ loop-arc-preserved c =
     }
 
 pub returns-clause-search : goal.returns-clause-search
-returns-clause-search c = looked-all c.args.g.now.arcs (residual_of c.args.carried.now) c.args.from _ _ _ _ _ _ _ c.loop-arc.invariant.looking c.touching-arc-items.ensures.arcs c.loop-arc-test.false
-    (tail-row c.args.g.now.arcs c.args.carried.now)
+returns-clause-search c = looked-all c.args.g.now.arcs (gives c.args.ways) c.args.from _ _ _ _ _ _ _ c.loop-arc.invariant.looking c.touching-arc-items.ensures.arcs c.loop-arc-test.false
+    (tail-row c.args.g.now.arcs c.args.ways)

@@ -13,8 +13,8 @@ follow-more-requires-clause-room c unseen =
           c.requires.search (omega (arith, c.requires.marks)) (omega (arith, c.requires.queue, c.requires.marks)) c.requires.tail unseen,
     )
 
-pub close-requires-clause-units : goal.close-requires-clause-units
-close-requires-clause-units c =
+pub close-requires-clause-ways : goal.close-requires-clause-ways
+close-requires-clause-ways c =
     let on : OnArcs c.args.g.now.arcs c.args.carried.now = record { is_arc = c.requires.units; of_link = c.requires.of_link } in
     let after = OnArcs-set c.args.g.now.arcs c.args.carried.now c.args.arc.link.0 None on (place_below c.args.carried.now c.args.arc.link.0 c.args.arc c.requires.arc)
     (λ b e. absurd (none≢some b None refl e)) in
