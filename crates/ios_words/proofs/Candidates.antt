@@ -1,5 +1,5 @@
 -- The rows that do not begin as a line does say nothing of it.
-use Rattle.std.proofs.Common.{◌≡◌, ℕ, ◌&&◌, not, Bool, true, false, cond, List, [], ◌∷◌, Some, get_or, refl, sym, ap, subst, ◌∙◌, true≢false, codes, filter, find}
+use Rattle.std.proofs.Common.{◌≡◌, ℕ, ◌&&◌, not, Bool, true, false, cond, List, [], ◌∷◌, Some, get_or, refl, sym, ap, subst, ◌∙◌, true≢false, codes, drop, filter, find}
 use Rattle.std.proofs.lemmas.Bool.{eq-eqb, and_from}
 use Rattle.std.proofs.lemmas.Slice.Eq.{bytes_eq-Decides}
 use Rattle.std.specs.Str.{bytes_eq}
@@ -7,7 +7,7 @@ use Rattle.ios_words.specs.Candidates.{letter, begins_with, is_ip, parts_have_le
 use Rattle.ios_words.specs.declared.kinds.BlockKind.{BlockKind}
 use Rattle.ios_words.specs.Commands.{completes}
 use Rattle.ios_words.specs.Language.{rows}
-use Rattle.ios_words.specs.Readings.{match_words, matches}
+use Rattle.ios_words.specs.Readings.{begins, match_words, matches}
 use Rattle.ios_words.specs.Rows.{Piece, Word, Verdict, Place, Bracket, Flag, EntryNumber, Protocol, Source, Destination, Ports, Anything, Rule}
 use Rattle.ios_words.specs.Trials.{SaysTheSame}
 
@@ -36,21 +36,22 @@ first_word v w words pieces e = go (bytes_eq w v) refl
 no_first : (v : List ℕ) (pieces : List Piece) → match_words (Word v ∷ pieces) [] ≡ true → ⊥
 no_first v pieces e = true≢false (sym e)
 
-keeps_letter : (w : List ℕ) (words : List (List ℕ)) → is_ip w ≡ false → (pieces : List Piece) → match_words pieces (w ∷ words) ≡ true → parts_have_letter (letter (w ∷ words)) pieces ≡ true
-keeps_letter w words other [] e = refl
-keeps_letter w words other (Word v ∷ pieces) e =
+keeps_letter : (words : List (List ℕ)) → begins (codes "ip") words ≡ false → (pieces : List Piece) → match_words pieces words ≡ true → parts_have_letter (letter words) pieces ≡ true
+keeps_letter words other [] e = refl
+keeps_letter [] other (Word v ∷ pieces) e = absurd (no_first v pieces e)
+keeps_letter (w ∷ words) other (Word v ∷ pieces) e =
     let P : List ℕ → Type 0 = λ u. (begins_with (letter (w ∷ words)) u && not (is_ip u)) ≡ true in
     subst P (first_word v w words pieces e).0 (rw (eq-eqb (get_or w 0 0) (get_or w 0 0) refl, other) refl)
-keeps_letter w words other (Verdict ∷ pieces) e = refl
-keeps_letter w words other (Place form ∷ pieces) e = refl
-keeps_letter w words other (Bracket word form ∷ pieces) e = refl
-keeps_letter w words other (Flag word ∷ pieces) e = refl
-keeps_letter w words other (EntryNumber ∷ pieces) e = refl
-keeps_letter w words other (Protocol ∷ pieces) e = refl
-keeps_letter w words other (Source ∷ pieces) e = refl
-keeps_letter w words other (Destination ∷ pieces) e = refl
-keeps_letter w words other (Ports ∷ pieces) e = refl
-keeps_letter w words other (Anything ∷ pieces) e = refl
+keeps_letter words other (Verdict ∷ pieces) e = refl
+keeps_letter words other (Place form ∷ pieces) e = refl
+keeps_letter words other (Bracket word form ∷ pieces) e = refl
+keeps_letter words other (Flag word ∷ pieces) e = refl
+keeps_letter words other (EntryNumber ∷ pieces) e = refl
+keeps_letter words other (Protocol ∷ pieces) e = refl
+keeps_letter words other (Source ∷ pieces) e = refl
+keeps_letter words other (Destination ∷ pieces) e = refl
+keeps_letter words other (Ports ∷ pieces) e = refl
+keeps_letter words other (Anything ∷ pieces) e = refl
 
 begins_letter : (words : List (List ℕ)) (pieces : List Piece) → match_words pieces words ≡ true → parts_begin (letter words) pieces ≡ true
 begins_letter words [] e = refl
@@ -102,22 +103,18 @@ left_out words keeps rules others sound is = record {
   completing = λ extended. ap (find (completes extended words)) is ∙ find-filter (completes extended words) keeps (λ rule complete. sound rule (completes-matches extended words rule complete)) others;
 }
 
-pub same_letter : (words : List (List ℕ)) (w : List ℕ) (more : List (List ℕ)) (l : ℕ) (rules others : List Rule) → words ≡ w ∷ more → is_ip w ≡ false →
-    l ≡ letter words → rules ≡ filter (has_letter l) others → SaysTheSame words rules others
-same_letter words w more l rules others cut other at is =
-    let P : List (List ℕ) → Type 0 = λ ws. rules ≡ filter (has_letter (letter ws)) others → SaysTheSame ws rules others in
-    subst P (sym cut) (left_out (w ∷ more) (has_letter (letter (w ∷ more))) rules others (λ rule. keeps_letter w more other rule.pieces)) (is ∙ ap (λ k. filter (has_letter k) others) at)
+pub same_letter : (words : List (List ℕ)) (l : ℕ) (rules others : List Rule) → begins (codes "ip") words ≡ false → l ≡ letter words → rules ≡ filter (has_letter l) others →
+    SaysTheSame words rules others
+same_letter words l rules others other at is =
+    left_out words (has_letter (letter words)) rules others (λ rule. keeps_letter words other rule.pieces) (is ∙ ap (λ k. filter (has_letter k) others) at)
 
-pub same_ip : (words : List (List ℕ)) (w : List ℕ) (more : List (List ℕ)) (l : ℕ) (rules others : List Rule) → words ≡ w ∷ more → is_ip w ≡ true →
-    l ≡ letter more → rules ≡ filter (follows_ip l) others → SaysTheSame words rules others
-same_ip words w more l rules others cut ip at is =
-    let P : List (List ℕ) → Type 0 = λ ws. SaysTheSame ws rules others in
-    subst P (sym (cut ∙ ap (λ v. v ∷ more) (same_bytes w (codes "ip") ip)))
+pub same_ip : (words : List (List ℕ)) (l : ℕ) (rules others : List Rule) → begins (codes "ip") words ≡ true → l ≡ letter (drop 1 words) → rules ≡ filter (follows_ip l) others →
+    SaysTheSame words rules others
+same_ip [] l rules others ip at is = absurd (true≢false (sym ip))
+same_ip (w ∷ more) l rules others ip at is =
+    let P : List ℕ → Type 0 = λ v. SaysTheSame (v ∷ more) rules others in
+    subst P (sym (same_bytes w (codes "ip") ip))
     (left_out (codes "ip" ∷ more) (follows_ip (letter more)) rules others (λ rule. keeps_ip more rule.pieces) (is ∙ ap (λ k. filter (follows_ip k) others) at))
-
--- a line without words matches none of the rows outside blocks or of an interface
-pub no_words : (words : List (List ℕ)) (others : List Rule) → words ≡ [] → SaysTheSame [] [] others → SaysTheSame words [] others
-no_words words others none is = let P : List (List ℕ) → Type 0 = λ ws. SaysTheSame ws [] others in subst P (sym none) is
 
 -- rows that say the same as those of a block
 pub in_block : (words : List (List ℕ)) (rules : List Rule) (within block : BlockKind) → within ≡ block → SaysTheSame words rules (rows block) → SaysTheSame words rules (rows within)

@@ -6,25 +6,23 @@ ghost use Rattle.ios_words.specs.declared.kinds.BlockKind.TheVariants as blocks;
 ghost use Rattle.ios_words.specs.Rows.{rule_of};
 ghost use Rattle.ios_words.specs.Trials.{is_short};
 
-use crate::rows::Part::{Place, Word};
-use crate::rows::{Form, Meaning, Part, Row, inert, row};
+use crate::rows::Form::{Address, Area, FaceName, Mask, Name, Network, Number, Wildcard};
+use crate::rows::Part::{
+    Anything, Destination, EntryNumber, Flag, Place, Ports, Protocol, Source, Verdict, Word,
+};
+use crate::rows::{Meaning, Part, Row, inert, row};
 
 const OSPF: &[Row] = &[
     inert!(b"log-adjacency-changes"),
     inert!(b"no", b"log-adjacency-changes"),
     inert!(b"maximum-paths"),
-    row!(Covers:
-        Word(b"network"), Place(Form::Address), Place(Form::Wildcard), Word(b"area"),
-        Place(Form::Area)
-    ),
-    row!(Passive: Word(b"passive-interface"), Place(Form::FaceName)),
-    row!(NoPassive: Word(b"no"), Word(b"passive-interface"), Place(Form::FaceName)),
+    row!(Covers: Word(b"network"), Place(Address), Place(Wildcard), Word(b"area"), Place(Area)),
+    row!(Passive: Word(b"passive-interface"), Place(FaceName)),
+    row!(NoPassive: Word(b"no"), Word(b"passive-interface"), Place(FaceName)),
     row!(PassiveByDefault: Word(b"passive-interface"), Word(b"default")),
     row!(NoPassiveByDefault: Word(b"no"), Word(b"passive-interface"), Word(b"default")),
-    row!(Reference:
-        Word(b"auto-cost"), Word(b"reference-bandwidth"), Place(Form::Number(1, 4294967))
-    ),
-    row!(RouterId: Word(b"router-id"), Place(Form::Address)),
+    row!(Reference: Word(b"auto-cost"), Word(b"reference-bandwidth"), Place(Number(1, 4294967))),
+    row!(RouterId: Word(b"router-id"), Place(Address)),
 ];
 
 const BGP: &[Row] = &[
@@ -32,41 +30,34 @@ const BGP: &[Row] = &[
     inert!(b"no", b"synchronization"),
     inert!(b"no", b"auto-summary"),
     inert!(b"maximum-paths"),
-    row!(Inert: Word(b"neighbor"), Place(Form::Address), Word(b"description"), Part::Anything),
-    row!(Inert:
-        Word(b"neighbor"), Place(Form::Address), Word(b"soft-reconfiguration"), Part::Anything
-    ),
-    row!(Inert: Word(b"neighbor"), Place(Form::Address), Word(b"send-community"), Part::Anything),
-    row!(Inert: Word(b"neighbor"), Place(Form::Address), Word(b"version"), Part::Anything),
+    row!(Inert: Word(b"neighbor"), Place(Address), Word(b"description"), Anything),
+    row!(Inert: Word(b"neighbor"), Place(Address), Word(b"soft-reconfiguration"), Anything),
+    row!(Inert: Word(b"neighbor"), Place(Address), Word(b"send-community"), Anything),
+    row!(Inert: Word(b"neighbor"), Place(Address), Word(b"version"), Anything),
     row!(RemoteAs:
-        Word(b"neighbor"), Place(Form::Address), Word(b"remote-as"),
-        Place(Form::Number(1, 4294967295))
+        Word(b"neighbor"), Place(Address), Word(b"remote-as"), Place(Number(1, 4294967295))
     ),
-    row!(NeighborDown: Word(b"neighbor"), Place(Form::Address), Word(b"shutdown")),
-    row!(NoNeighborDown: Word(b"no"), Word(b"neighbor"), Place(Form::Address), Word(b"shutdown")),
+    row!(NeighborDown: Word(b"neighbor"), Place(Address), Word(b"shutdown")),
+    row!(NoNeighborDown: Word(b"no"), Word(b"neighbor"), Place(Address), Word(b"shutdown")),
     row!(NeighborList:
-        Word(b"neighbor"), Place(Form::Address), Word(b"prefix-list"), Place(Form::Name),
-        Word(b"in")
+        Word(b"neighbor"), Place(Address), Word(b"prefix-list"), Place(Name), Word(b"in")
     ),
-    row!(Tells: Word(b"network"), Place(Form::Address), Word(b"mask"), Place(Form::Mask(0))),
-    row!(Tells: Word(b"network"), Place(Form::Network)),
-    row!(RouterId: Word(b"bgp"), Word(b"router-id"), Place(Form::Address)),
+    row!(Tells: Word(b"network"), Place(Address), Word(b"mask"), Place(Mask(0))),
+    row!(Tells: Word(b"network"), Place(Network)),
+    row!(RouterId: Word(b"bgp"), Word(b"router-id"), Place(Address)),
 ];
 
 const EXTENDED: &[Row] = &[
-    row!(Inert: Part::EntryNumber, Word(b"remark"), Part::Anything),
-    row!(Entry:
-        Part::EntryNumber, Part::Verdict, Part::Protocol, Part::Source, Part::Destination,
-        Part::Ports, Part::Flag(b"log")
-    ),
+    row!(Inert: EntryNumber, Word(b"remark"), Anything),
+    row!(Entry: EntryNumber, Verdict, Protocol, Source, Destination, Ports, Flag(b"log")),
 ];
 
 const STANDARD: &[Row] = &[
-    row!(Inert: Part::EntryNumber, Word(b"remark"), Part::Anything),
-    row!(Entry: Part::EntryNumber, Part::Verdict, Part::Source, Part::Flag(b"log")),
+    row!(Inert: EntryNumber, Word(b"remark"), Anything),
+    row!(Entry: EntryNumber, Verdict, Source, Flag(b"log")),
 ];
 
-const INERT: &[Row] = &[row!(Inert: Part::Anything)];
+const INERT: &[Row] = &[row!(Inert: Anything)];
 
 /// The rows of an OSPF process.
 pub(crate) fn ospf_rows() -> &'static [Row]

@@ -1,6 +1,9 @@
 //! What the words of a line gave so far.
+ghost use Rattle.ios_words.specs.Values.{tested};
+ghost use Rattle.std.specs.Prelude.{◌≡◌, option_map};
 
 use crate::kinds::Flaw;
+use crate::kinds::Flaw::Amiss;
 use crate::names::is_face_name;
 use crate::numbers::{area_of, is_from, list_kind, mask_length, number_in, wildcard_length};
 use crate::prefixes::{class_prefix, holding, route_of};
@@ -37,8 +40,8 @@ pub(crate) struct Found<'a> {
 
 impl<'a> Found<'a> {
     ghost use Rattle.ios_words.specs.FoundValues.{values_of, word_values};
-    ghost use Rattle.ios_words.specs.Values.{values_with, with_length, with_ports, no_values};
-    ghost use Rattle.std.specs.Prelude.{◌≡◌, ◌≤◌, IfOk};
+    ghost use Rattle.ios_words.specs.Values.{values_with, with_ports, no_values};
+    ghost use Rattle.std.specs.Prelude.{◌≡◌, ◌≤◌};
 
     /// What is known before the first word: whether the line is in the block of an extended list.
     pub(crate) fn nothing(extended: bool) -> Found<'a>
@@ -66,185 +69,50 @@ impl<'a> Found<'a> {
     pub(crate) fn with(self, form: Form, word: &'a [u8]) -> Result<Found<'a>, Flaw>
         ensures { word_values result ≡ values_with form (values_of self.entry) word.now }
     {
+        let mut found = self;
         match form {
-            Form::Name => self.with_name(word),
-            Form::FaceName => self.with_face_name(word),
-            Form::Number(low, high) => self.with_number(word, low, high),
-            Form::Address => self.with_address(word),
-            Form::Host => self.with_host(word),
-            Form::Network => self.with_network(word),
-            Form::Mask(least) => self.with_length(mask_length(word, least)),
-            Form::Wildcard => self.with_length(wildcard_length(word)),
-            Form::Area => self.with_area(word),
-            Form::ListNumber => self.with_list_number(word),
-            Form::Order(high) => self.with_order(word, high),
-            Form::Route => self.with_route(word),
-            Form::AtLeast => self.with_least(word),
-            Form::AtMost => self.with_greatest(word),
-            Form::Protocol => self.with_protocol(word),
-            Form::Port => self.with_port(word),
-            Form::FirstPort => self.with_first_port(word),
-            Form::LastPort => self.with_last_port(word),
+            Form::Name => found.text = tested(is_name(word), word).ok_or(Amiss)?,
+            Form::FaceName => found.text = tested(is_face_name(word), word).ok_or(Amiss)?,
+            Form::Number(low, high) => found.number = number_in(word, low, high).ok_or(Amiss)?,
+            Form::Address => found.address = read_address(word).ok_or(Amiss)?,
+            Form::Host => {
+                found.address = read_address(word).ok_or(Amiss)?;
+                found.to = holding(found.address, 32);
+            }
+            Form::Network => found.to = class_prefix(read_address(word)).ok_or(Amiss)?,
+            Form::Mask(least) => {
+                found.length = mask_length(word, least)?;
+                found.to = holding(self.address, found.length);
+            }
+            Form::Wildcard => {
+                found.length = wildcard_length(word)?;
+                found.to = holding(self.address, found.length);
+            }
+            Form::Area => found.area = area_of(word).ok_or(Amiss)?,
+            Form::ListNumber => {
+                found.extended = list_kind(word).ok_or(Amiss)?;
+                found.text = word;
+            }
+            Form::Order(high) => found.order = Some(number_in(word, 1, high).ok_or(Amiss)?),
+            Form::Route => {
+                let (address, len) = route_of(word).ok_or(Amiss)?;
+                found.to = holding(address, len);
+                found.low = len;
+                found.high = len;
+            }
+            Form::AtLeast => {
+                found.low = number_in(word, u32::from(self.to.len), 32).ok_or(Amiss)? as u8;
+                found.high = 32;
+            }
+            Form::AtMost => {
+                found.high = number_in(word, u32::from(self.low), 32).ok_or(Amiss)? as u8;
+            }
+            Form::Protocol => found.services = services_of(word).ok_or(Amiss)?,
+            Form::Port => found = self.with_port(word)?,
+            Form::FirstPort => found = self.with_first_port(word)?,
+            Form::LastPort => found = self.with_last_port(word)?,
         }
-    }
-
-    fn with_name(self, word: &'a [u8]) -> Result<Found<'a>, Flaw>
-        ensures { word_values result ≡ values_with Form.Name (values_of self.entry) word.now }
-    {
-        if is_name(word) {
-            Ok(Found { text: word, ..self })
-        } else {
-            Err(Flaw::Amiss)
-        }
-    }
-
-    fn with_face_name(self, word: &'a [u8]) -> Result<Found<'a>, Flaw>
-        ensures { word_values result ≡ values_with Form.FaceName (values_of self.entry) word.now }
-    {
-        if is_face_name(word) {
-            Ok(Found { text: word, ..self })
-        } else {
-            Err(Flaw::Amiss)
-        }
-    }
-
-    fn with_number(self, word: &[u8], low: u32, high: u32) -> Result<Found<'a>, Flaw>
-        ensures { word_values result
-            ≡ values_with (Form.Number low high) (values_of self.entry) word.now }
-    {
-        match number_in(word, low, high) {
-            Some(number) => Ok(Found { number, ..self }),
-            None => Err(Flaw::Amiss),
-        }
-    }
-
-    fn with_address(self, word: &[u8]) -> Result<Found<'a>, Flaw>
-        ensures { word_values result ≡ values_with Form.Address (values_of self.entry) word.now }
-    {
-        match read_address(word) {
-            Some(address) => Ok(Found { address, ..self }),
-            None => Err(Flaw::Amiss),
-        }
-    }
-
-    fn with_host(self, word: &[u8]) -> Result<Found<'a>, Flaw>
-        ensures { word_values result ≡ values_with Form.Host (values_of self.entry) word.now }
-    {
-        match read_address(word) {
-            Some(address) => Ok(Found {
-                address,
-                to: holding(address, 32),
-                ..self
-            }),
-            None => Err(Flaw::Amiss),
-        }
-    }
-
-    fn with_network(self, word: &[u8]) -> Result<Found<'a>, Flaw>
-        ensures { word_values result ≡ values_with Form.Network (values_of self.entry) word.now }
-    {
-        match class_prefix(read_address(word)) {
-            Some(to) => Ok(Found { to, ..self }),
-            None => Err(Flaw::Amiss),
-        }
-    }
-
-    /// With the length of a mask or wildcard, which makes a prefix of the address before it.
-    fn with_length(self, length: Result<u8, Flaw>) -> Result<Found<'a>, Flaw>
-        requires { IfOk length (λ length. length ≤ 32) }
-        ensures { word_values result ≡ with_length (values_of self.entry) length }
-    {
-        match length {
-            Ok(length) => Ok(Found {
-                length,
-                to: holding(self.address, length),
-                ..self
-            }),
-            Err(flaw) => Err(flaw),
-        }
-    }
-
-    fn with_area(self, word: &[u8]) -> Result<Found<'a>, Flaw>
-        ensures { word_values result ≡ values_with Form.Area (values_of self.entry) word.now }
-    {
-        match area_of(word) {
-            Some(area) => Ok(Found { area, ..self }),
-            None => Err(Flaw::Amiss),
-        }
-    }
-
-    fn with_list_number(self, word: &'a [u8]) -> Result<Found<'a>, Flaw>
-        ensures { word_values result ≡ values_with Form.ListNumber (values_of self.entry) word.now }
-    {
-        match list_kind(word) {
-            Some(extended) => Ok(Found {
-                text: word,
-                extended,
-                ..self
-            }),
-            None => Err(Flaw::Amiss),
-        }
-    }
-
-    fn with_order(self, word: &[u8], high: u32) -> Result<Found<'a>, Flaw>
-        ensures { word_values result
-            ≡ values_with (Form.Order high) (values_of self.entry) word.now }
-    {
-        match number_in(word, 1, high) {
-            Some(number) => Ok(Found {
-                order: Some(number),
-                ..self
-            }),
-            None => Err(Flaw::Amiss),
-        }
-    }
-
-    fn with_route(self, word: &[u8]) -> Result<Found<'a>, Flaw>
-        ensures { word_values result ≡ values_with Form.Route (values_of self.entry) word.now }
-    {
-        match route_of(word) {
-            Some((address, len)) => Ok(Found {
-                to: holding(address, len),
-                low: len,
-                high: len,
-                ..self
-            }),
-            None => Err(Flaw::Amiss),
-        }
-    }
-
-    fn with_least(self, word: &[u8]) -> Result<Found<'a>, Flaw>
-        ensures { word_values result ≡ values_with Form.AtLeast (values_of self.entry) word.now }
-    {
-        match number_in(word, u32::from(self.to.len), 32) {
-            Some(low) => Ok(Found {
-                low: low as u8,
-                high: 32,
-                ..self
-            }),
-            None => Err(Flaw::Amiss),
-        }
-    }
-
-    fn with_greatest(self, word: &[u8]) -> Result<Found<'a>, Flaw>
-        ensures { word_values result ≡ values_with Form.AtMost (values_of self.entry) word.now }
-    {
-        match number_in(word, u32::from(self.low), 32) {
-            Some(high) => Ok(Found {
-                high: high as u8,
-                ..self
-            }),
-            None => Err(Flaw::Amiss),
-        }
-    }
-
-    fn with_protocol(self, word: &[u8]) -> Result<Found<'a>, Flaw>
-        ensures { word_values result ≡ values_with Form.Protocol (values_of self.entry) word.now }
-    {
-        match services_of(word) {
-            Some(services) => Ok(Found { services, ..self }),
-            None => Err(Flaw::Amiss),
-        }
+        Ok(found)
     }
 
     fn with_port(self, word: &[u8]) -> Result<Found<'a>, Flaw>
@@ -292,4 +160,11 @@ impl<'a> Found<'a> {
             ..self
         }
     }
+}
+
+/// The word itself, where the test comes out true.
+fn tested(holds: bool, word: &[u8]) -> Option<&[u8]>
+    ensures { option_map (λ word. word.now) result ≡ tested holds word.now }
+{
+    if holds { Some(word) } else { None }
 }

@@ -7,14 +7,11 @@ ghost use Rattle.ios_words.specs.declared.kinds.BlockKind.TheVariants as blocks;
 ghost use Rattle.ios_words.specs.Rows.{rule_of};
 ghost use Rattle.ios_words.specs.Trials.{is_short};
 
+use crate::rows::Form::{Address, Area, Mask, Name, Number};
 use crate::rows::Part::{Place, Word};
-use crate::rows::{Form, Meaning, Part, Row, inert, row};
+use crate::rows::{Meaning, Part, Row, inert, row};
 
-const INTERFACE_A: &[Row] = &[inert!(b"arp", b"timeout")];
-
-const INTERFACE_B: &[Row] = &[
-    row!(Bandwidth: Word(b"bandwidth"), Place(Form::Number(1, 100000000))),
-];
+const INTERFACE_B: &[Row] = &[row!(Bandwidth: Word(b"bandwidth"), Place(Number(1, 100000000)))];
 
 const INTERFACE_C: &[Row] = &[
     inert!(b"clock", b"rate"),
@@ -22,17 +19,11 @@ const INTERFACE_C: &[Row] = &[
     inert!(b"carrier-delay"),
 ];
 
-const INTERFACE_D: &[Row] = &[inert!(b"description"), inert!(b"duplex"), inert!(b"delay")];
-
-const INTERFACE_H: &[Row] = &[inert!(b"hold-queue")];
-
 const INTERFACE_L: &[Row] = &[
     inert!(b"load-interval"),
     inert!(b"lldp"),
     inert!(b"logging"),
 ];
-
-const INTERFACE_M: &[Row] = &[inert!(b"media-type"), inert!(b"mop")];
 
 const INTERFACE_N: &[Row] = &[
     inert!(b"negotiation"),
@@ -58,24 +49,17 @@ const INTERFACE_S: &[Row] = &[
 ];
 
 const INTERFACE_IP_A: &[Row] = &[
-    row!(Address: Word(b"ip"), Word(b"address"), Place(Form::Address), Place(Form::Mask(1))),
-    row!(GroupIn: Word(b"ip"), Word(b"access-group"), Place(Form::Name), Word(b"in")),
-    row!(GroupOut: Word(b"ip"), Word(b"access-group"), Place(Form::Name), Word(b"out")),
+    row!(Address: Word(b"ip"), Word(b"address"), Place(Address), Place(Mask(1))),
+    row!(GroupIn: Word(b"ip"), Word(b"access-group"), Place(Name), Word(b"in")),
+    row!(GroupOut: Word(b"ip"), Word(b"access-group"), Place(Name), Word(b"out")),
 ];
 
 const INTERFACE_IP_O: &[Row] = &[
-    row!(Cost: Word(b"ip"), Word(b"ospf"), Word(b"cost"), Place(Form::Number(1, 65535))),
-    row!(Area:
-        Word(b"ip"), Word(b"ospf"), Place(Form::Number(1, 65535)), Word(b"area"),
-        Place(Form::Area)
-    ),
+    row!(Cost: Word(b"ip"), Word(b"ospf"), Word(b"cost"), Place(Number(1, 65535))),
+    row!(Area: Word(b"ip"), Word(b"ospf"), Place(Number(1, 65535)), Word(b"area"), Place(Area)),
     row!(PointToPoint: Word(b"ip"), Word(b"ospf"), Word(b"network"), Word(b"point-to-point")),
     row!(Broadcast: Word(b"ip"), Word(b"ospf"), Word(b"network"), Word(b"broadcast")),
 ];
-
-const INTERFACE_IP_R: &[Row] = &[inert!(b"ip", b"route-cache")];
-
-const INTERFACE_IP_V: &[Row] = &[inert!(b"ip", b"virtual-reassembly")];
 
 /// The rows whose first word is not `ip` and begins with this letter.
 pub(crate) fn interface_rows(letter: u8) -> &'static [Row]
@@ -83,13 +67,13 @@ pub(crate) fn interface_rows(letter: u8) -> &'static [Row]
     ensures short { IsTrue (list_all is_short (map rule_of result.now)) }
 {
     match letter {
-        b'a' => INTERFACE_A,
+        b'a' => &[inert!(b"arp", b"timeout")],
         b'b' => INTERFACE_B,
         b'c' => INTERFACE_C,
-        b'd' => INTERFACE_D,
-        b'h' => INTERFACE_H,
+        b'd' => &[inert!(b"description"), inert!(b"duplex"), inert!(b"delay")],
+        b'h' => &[inert!(b"hold-queue")],
         b'l' => INTERFACE_L,
-        b'm' => INTERFACE_M,
+        b'm' => &[inert!(b"media-type"), inert!(b"mop")],
         b'n' => INTERFACE_N,
         b's' => INTERFACE_S,
         _ => &[],
@@ -104,8 +88,8 @@ pub(crate) fn interface_ip_rows(letter: u8) -> &'static [Row]
     match letter {
         b'a' => INTERFACE_IP_A,
         b'o' => INTERFACE_IP_O,
-        b'r' => INTERFACE_IP_R,
-        b'v' => INTERFACE_IP_V,
+        b'r' => &[inert!(b"ip", b"route-cache")],
+        b'v' => &[inert!(b"ip", b"virtual-reassembly")],
         _ => &[],
     }
 }

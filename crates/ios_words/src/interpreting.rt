@@ -39,15 +39,7 @@ pub fn command(
 fn is_extended(within: BlockKind) -> bool
     ensures { result ≡ is_extended_block within }
 {
-    match within {
-        BlockKind::Extended => true,
-        BlockKind::Top => false,
-        BlockKind::Interface => false,
-        BlockKind::Ospf => false,
-        BlockKind::Bgp => false,
-        BlockKind::Standard => false,
-        BlockKind::Inert => false,
-    }
+    matches!(within, BlockKind::Extended)
 }
 
 /// The rows of a block that may match these words: the others don't.
@@ -55,49 +47,16 @@ fn candidates(within: BlockKind, words: Words) -> &'static [Row]
     ensures same { SaysTheSame (words_of words.entry) (map rule_of result.now) (rows within) }
     ensures short { IsTrue (list_all is_short (map rule_of result.now)) }
 {
+    let after_ip = words.begin_with(b"ip");
     match within {
-        BlockKind::Top => top_candidates(words),
-        BlockKind::Interface => interface_candidates(words),
+        BlockKind::Top if after_ip => top_ip_rows(words.rest().letter()),
+        BlockKind::Top => top_rows(words.letter()),
+        BlockKind::Interface if after_ip => interface_ip_rows(words.rest().letter()),
+        BlockKind::Interface => interface_rows(words.letter()),
         BlockKind::Ospf => ospf_rows(),
         BlockKind::Bgp => bgp_rows(),
         BlockKind::Extended => extended_rows(),
         BlockKind::Standard => standard_rows(),
         BlockKind::Inert => inert_block_rows(),
-    }
-}
-
-/// The rows of lines outside blocks that may match these words.
-fn top_candidates(words: Words) -> &'static [Row]
-    ensures same { SaysTheSame (words_of words.entry) (map rule_of result.now)
-        (rows BlockKind.Top) }
-    ensures short { IsTrue (list_all is_short (map rule_of result.now)) }
-{
-    match words.split() {
-        Some((first, rest)) => {
-            if first == b"ip".as_slice() {
-                top_ip_rows(rest.letter())
-            } else {
-                top_rows(words.letter())
-            }
-        }
-        None => &[],
-    }
-}
-
-/// The rows of lines of an interface that may match these words.
-fn interface_candidates(words: Words) -> &'static [Row]
-    ensures same { SaysTheSame (words_of words.entry) (map rule_of result.now)
-        (rows BlockKind.Interface) }
-    ensures short { IsTrue (list_all is_short (map rule_of result.now)) }
-{
-    match words.split() {
-        Some((first, rest)) => {
-            if first == b"ip".as_slice() {
-                interface_ip_rows(rest.letter())
-            } else {
-                interface_rows(words.letter())
-            }
-        }
-        None => &[],
     }
 }

@@ -27,42 +27,17 @@ fn after<'a>(part: Part, words: Words<'a>) -> Option<Words<'a>>
     ensures { option_map words_of result ≡ after (piece_of part) (words_of words.entry) }
 {
     match part {
-        Part::Word(word) => {
-            if words.begin_with(word) {
-                Some(words.rest())
-            } else {
-                None
-            }
-        }
-        Part::Verdict => {
-            if words.begin_with_verdict() {
-                Some(words.rest())
-            } else {
-                None
-            }
-        }
+        Part::Word(word) if words.begin_with(word) => Some(words.rest()),
+        Part::Word(_) => None,
+        Part::Verdict if words.begin_with_verdict() => Some(words.rest()),
+        Part::Verdict => None,
         Part::Place(_) => Some(words.rest()),
-        Part::Option(word, _) => {
-            if words.begin_with(word) {
-                Some(words.rest().rest())
-            } else {
-                Some(words)
-            }
-        }
-        Part::Flag(word) => {
-            if words.begin_with(word) {
-                Some(words.rest())
-            } else {
-                Some(words)
-            }
-        }
-        Part::EntryNumber => {
-            if words.begin_entry() {
-                Some(words)
-            } else {
-                Some(words.rest())
-            }
-        }
+        Part::Option(word, _) if words.begin_with(word) => Some(words.rest().rest()),
+        Part::Option(_, _) => Some(words),
+        Part::Flag(word) if words.begin_with(word) => Some(words.rest()),
+        Part::Flag(_) => Some(words),
+        Part::EntryNumber if words.begin_entry() => Some(words),
+        Part::EntryNumber => Some(words.rest()),
         Part::Protocol | Part::Source | Part::Destination | Part::Ports | Part::Anything => {
             Some(words.none())
         }

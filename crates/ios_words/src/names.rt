@@ -82,31 +82,14 @@ fn next(before: Before, byte: u8) -> Option<Before>
     ensures { result ≡ next before byte }
 {
     match before {
-        Before::Start => {
-            if byte == b'0' {
-                Some(Before::Zero)
-            } else if byte.is_ascii_digit() {
-                Some(Before::Digit)
-            } else {
-                None
-            }
-        }
-        Before::Zero => {
-            if byte == b'/' {
-                Some(Before::Start)
-            } else {
-                None
-            }
-        }
-        Before::Digit => {
-            if byte == b'/' {
-                Some(Before::Start)
-            } else if byte.is_ascii_digit() {
-                Some(Before::Digit)
-            } else {
-                None
-            }
-        }
+        Before::Start if byte == b'0' => Some(Before::Zero),
+        Before::Start if byte.is_ascii_digit() => Some(Before::Digit),
+        Before::Start => None,
+        Before::Zero if byte == b'/' => Some(Before::Start),
+        Before::Zero => None,
+        Before::Digit if byte == b'/' => Some(Before::Start),
+        Before::Digit if byte.is_ascii_digit() => Some(Before::Digit),
+        Before::Digit => None,
     }
 }
 
@@ -114,9 +97,5 @@ fn next(before: Before, byte: u8) -> Option<Before>
 fn ends(before: Before) -> bool
     ensures { result ≡ ends before }
 {
-    match before {
-        Before::Start => false,
-        Before::Zero => true,
-        Before::Digit => true,
-    }
+    !matches!(before, Before::Start)
 }

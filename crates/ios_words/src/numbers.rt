@@ -1,8 +1,7 @@
 //! Numbers, masks and areas as router files write them.
 ghost use Rattle.arc_base.specs.PrefixText.{number_of};
 ghost use Rattle.ios_words.specs.Numbers.{is_from, number_in, mask_ones, length_from, mask_length};
-ghost use Rattle.ios_words.specs.Numbers.{wildcard_length, area_of, class_length, is_standard};
-ghost use Rattle.ios_words.specs.Numbers.{is_extended, list_kind};
+ghost use Rattle.ios_words.specs.Numbers.{wildcard_length, area_of, class_length, list_kind};
 ghost use Rattle.std.specs.Prelude.{◌≡◌, ◌-◌, ◌<◌, ◌≤◌, IfSome, IfOk};
 
 use crate::kinds::Flaw;
@@ -50,15 +49,11 @@ pub(crate) fn number_in(word: &[u8], low: u32, high: u32) -> Option<u32>
     ensures number { result ≡ number_in low high word.now }
     ensures range { IfSome result (λ number. number ≤ high) }
 {
-    match read_number(word) {
-        Some(number) => {
-            if is_from(u64::from(low), u64::from(high), number) {
-                Some(number as u32)
-            } else {
-                None
-            }
-        }
-        None => None,
+    let number = read_number(word)?;
+    if is_from(u64::from(low), u64::from(high), number) {
+        Some(number as u32)
+    } else {
+        None
     }
 }
 
@@ -85,13 +80,8 @@ fn length_from(least: u8, ones: Option<usize>) -> Result<u8, Flaw>
     ensures few { IfOk result (λ length. length ≤ 32) }
 {
     match ones {
-        Some(ones) => {
-            if usize::from(least) <= ones {
-                Ok(ones as u8)
-            } else {
-                Err(Flaw::Amiss)
-            }
-        }
+        Some(ones) if usize::from(least) <= ones => Ok(ones as u8),
+        Some(_) => Err(Flaw::Amiss),
         None => Err(Flaw::Scattered),
     }
 }
@@ -133,15 +123,11 @@ pub(crate) fn class_length(byte: u32) -> Option<u8>
     ensures length { result ≡ class_length byte }
     ensures few { IfSome result (λ length. length ≤ 32) }
 {
-    let byte = u64::from(byte);
-    if is_from(1, 127, byte) {
-        Some(8)
-    } else if is_from(128, 191, byte) {
-        Some(16)
-    } else if is_from(192, 223, byte) {
-        Some(24)
-    } else {
-        None
+    match byte {
+        1..=127 => Some(8),
+        128..=191 => Some(16),
+        192..=223 => Some(24),
+        _ => None,
     }
 }
 
@@ -149,30 +135,9 @@ pub(crate) fn class_length(byte: u32) -> Option<u8>
 pub(crate) fn list_kind(word: &[u8]) -> Option<bool>
     ensures { result ≡ list_kind (number_of word.now) }
 {
-    match read_number(word) {
-        Some(number) => {
-            if is_standard(number) {
-                Some(false)
-            } else if is_extended(number) {
-                Some(true)
-            } else {
-                None
-            }
-        }
-        None => None,
+    match read_number(word)? {
+        1..=99 | 1300..=1999 => Some(false),
+        100..=199 | 2000..=2699 => Some(true),
+        _ => None,
     }
-}
-
-/// Whether a number is that of a standard list.
-fn is_standard(number: u64) -> bool
-    ensures { result ≡ is_standard number }
-{
-    is_from(1, 99, number) || is_from(1300, 1999, number)
-}
-
-/// Whether a number is that of an extended list.
-fn is_extended(number: u64) -> bool
-    ensures { result ≡ is_extended number }
-{
-    is_from(100, 199, number) || is_from(2000, 2699, number)
 }

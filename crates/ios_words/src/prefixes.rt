@@ -37,13 +37,8 @@ fn cleared(address: u32, rest: u8) -> u32
 pub(crate) fn class_prefix(address: Option<u32>) -> Option<Prefix>
     ensures { result ≡ class_prefix address }
 {
-    match address {
-        Some(address) => match class_length(address >> 24) {
-            Some(len) => Some(holding(address, len)),
-            None => None,
-        },
-        None => None,
-    }
+    let address = address?;
+    Some(holding(address, class_length(address >> 24)?))
 }
 
 /// The address and the length that a word writes with a slash between them.

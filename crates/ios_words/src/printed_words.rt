@@ -4,8 +4,7 @@ ghost use Rattle.ios_words.specs.Numbers.{mask};
 ghost use Rattle.ios_words.specs.Printed.{unless, verdict_word, side_words, packet_words};
 ghost use Rattle.ios_words.specs.Printed.{entry_words, order_words, sequence_words, most_words};
 ghost use Rattle.ios_words.specs.Printed.{length_words, route_words};
-ghost use Rattle.ios_words.specs.Services.{are_all, are_all_ports, protocol_text, protocol_word};
-ghost use Rattle.ios_words.specs.Services.{port_words};
+ghost use Rattle.ios_words.specs.Services.{protocol_word, port_words};
 ghost use Rattle.ios_words.specs.Views.{text_of};
 ghost use Rattle.std.specs.Prelude.{◌≡◌, ◌≤◌, ◌-◌, ◌^◌, ◌∷◌, ◌++◌, [], map, Some, OnOk};
 ghost use Rattle.std.specs.Prelude.{if◌then◌else◌};
@@ -111,46 +110,24 @@ fn push_side(alloc: Global, text: &mut Vec<u8>, prefix: &Prefix) -> Result<(), M
     push_words(alloc, text, &[address, Address(wildcard(prefix.len))])
 }
 
-/// Whether the range from the one service to the other is that of all services.
-fn are_all(low: u32, high: u32) -> bool
-    ensures { result ≡ are_all low high }
+/// The protocol of a range of services: by its name, where it has one.
+fn protocol(low: u32, high: u32) -> Word<'static>
+    ensures { text_of result ≡ protocol_word low high }
 {
-    low == 0 && high == 16777215
-}
-
-/// Whether it begins at the first port of a protocol and ends at a last one.
-fn are_all_ports(low: u32, high: u32) -> bool
-    ensures { result ≡ are_all_ports low high }
-{
-    low % 65536 == 0 && high % 65536 == 65535
-}
-
-/// Adds a protocol, by its name where it has one.
-fn push_protocol_name(alloc: Global, text: &mut Vec<u8>, number: u32) -> Result<(), Memory>
-    ensures { OnOk result (text.new.items ≡ text.old.items ++ spaced (protocol_text number ∷ [])) }
-{
-    match protocol_name(number) {
-        Some(name) => push_word(alloc, text, &Text(name)),
-        None => push_word(alloc, text, &Number(number)),
+    if low == 0 && high == 16777215 {
+        return Text(b"ip");
     }
-}
-
-/// Adds the protocol of a range of services.
-fn push_protocol(alloc: Global, text: &mut Vec<u8>, low: u32, high: u32) -> Result<(), Memory>
-    ensures { OnOk result
-        (text.new.items ≡ text.old.items ++ spaced (protocol_word low high ∷ [])) }
-{
-    if are_all(low, high) {
-        return push_word(alloc, text, &Text(b"ip"));
+    match protocol_name(low / 65536) {
+        Some(name) => Text(name),
+        None => Number(low / 65536),
     }
-    push_protocol_name(alloc, text, low / 65536)
 }
 
 /// Adds the destination ports of a range of services, if they aren't all.
 fn push_ports(alloc: Global, text: &mut Vec<u8>, low: u32, high: u32) -> Result<(), Memory>
     ensures { OnOk result (text.new.items ≡ text.old.items ++ spaced (port_words low high)) }
 {
-    if are_all_ports(low, high) {
+    if low % 65536 == 0 && high % 65536 == 65535 {
         return Ok(());
     }
     let first = Number(low % 65536);
@@ -178,8 +155,8 @@ fn verdict(permit: bool) -> Word<'static>
 fn push_packet(alloc: Global, text: &mut Vec<u8>, entry: &PacketText) -> Result<(), Memory>
     ensures { OnOk result (text.new.items ≡ text.old.items ++ spaced (packet_words entry.now)) }
 {
-    push_word(alloc, text, &verdict(entry.permit))?;
-    push_protocol(alloc, text, entry.low, entry.high)?;
+    let protocol = protocol(entry.low, entry.high);
+    push_words(alloc, text, &[verdict(entry.permit), protocol])?;
     push_side(alloc, text, &entry.from)?;
     push_side(alloc, text, &entry.to)?;
     push_ports(alloc, text, entry.low, entry.high)

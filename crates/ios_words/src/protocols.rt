@@ -98,14 +98,7 @@ fn number_named(rows: &[Named], word: &[u8]) -> Option<u32>
 pub(crate) fn protocol_name(number: u32) -> Option<&'static [u8]>
     ensures { option_map (λ name. name.now) result ≡ name_at protocol_names number }
 {
-    name_at(protocol_names(), number)
-}
-
-/// The name beside a number, where the number is there.
-fn name_at(rows: &'static [Named], number: u32) -> Option<&'static [u8]>
-    ensures { option_map (λ name. name.now) result ≡ name_at (map row_of rows.now) number }
-{
-    for row in rows {
+    for row in protocol_names() {
         if u32::from(row.number) == number {
             return Some(row.name);
         }
@@ -149,8 +142,5 @@ pub(crate) fn services_of(word: &[u8]) -> Option<Services>
     if word == b"ip".as_slice() {
         return Some(Services::whole());
     }
-    match protocol_of(word) {
-        Some(number) => Some(Services::of_ports(number, 0, 65535)),
-        None => None,
-    }
+    Some(Services::of_ports(protocol_of(word)?, 0, 65535))
 }

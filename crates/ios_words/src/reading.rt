@@ -4,7 +4,7 @@ ghost use Rattle.std.specs.Prelude.{◌≡◌};
 
 use crate::found::Found;
 use crate::kinds::{Flaw, WordFault};
-use crate::prefixes::holding;
+use crate::prefixes::{holding, whole};
 use crate::protocols::has_ports;
 use crate::rows::{Form, Part};
 use crate::words::Words;
@@ -22,9 +22,9 @@ pub(crate) struct Reader<'a> {
 
 impl<'a> Reader<'a> {
     ghost use Rattle.ios_words.specs.Readings.{place, this_word, verdict, passed, stands_alone};
-    ghost use Rattle.ios_words.specs.Readings.{alone, any, width, side, as_source, step};
+    ghost use Rattle.ios_words.specs.Readings.{width, side, step};
     ghost use Rattle.ios_words.specs.Readings.{read_parts, finish, start};
-    ghost use Rattle.ios_words.specs.Rows.{Bracket, Flag, Source, Ports, piece_of};
+    ghost use Rattle.ios_words.specs.Rows.{Source, Ports, piece_of};
     ghost use Rattle.ios_words.specs.Views.{words_of, state_of, next_state, line_values};
     ghost use Rattle.std.specs.Prelude.{◌≡◌, ◌+◌, ◌*◌, ◌<◌, ◌≤◌, map, length, IfOk};
 
@@ -50,10 +50,7 @@ impl<'a> Reader<'a> {
     {
         let mut reader = self;
         for part in parts {
-            match reader.step(*part) {
-                Ok(next) => reader = next,
-                Err(fault) => return Err(fault),
-            }
+            reader = reader.step(*part)?;
         }
         Ok(reader)
     }
@@ -79,61 +76,22 @@ impl<'a> Reader<'a> {
             Part::Word(word) => self.this_word(word),
             Part::Verdict => self.verdict(),
             Part::Place(form) => self.place(form),
-            Part::Option(word, form) => self.option(word, form),
-            Part::Flag(word) => Ok(self.flag(word)),
-            Part::EntryNumber => {
-                if self.words.begin_entry() {
-                    Ok(self)
-                } else {
-                    self.place(Form::Order(2147483647))
-                }
-            }
-            Part::Protocol => {
-                if self.found.extended {
-                    self.place(Form::Protocol)
-                } else {
-                    Ok(self)
-                }
-            }
+            Part::Option(word, form) if self.words.begin_with(word) => self.passed().place(form),
+            Part::Option(_, _) => Ok(self),
+            Part::Flag(word) if self.words.begin_with(word) => Ok(self.passed()),
+            Part::Flag(_) => Ok(self),
+            Part::EntryNumber if self.words.begin_entry() => Ok(self),
+            Part::EntryNumber => self.place(Form::Order(2147483647)),
+            Part::Protocol if self.found.extended => self.place(Form::Protocol),
+            Part::Protocol => Ok(self),
             Part::Source => self.source(),
-            Part::Destination => {
-                if self.found.extended {
-                    self.side(true)
-                } else {
-                    Ok(self)
-                }
-            }
+            Part::Destination if self.found.extended => self.side(true),
+            Part::Destination => Ok(self),
             Part::Ports => self.ports(),
             Part::Anything => Ok(Reader {
                 words: self.words.none(),
                 ..self
             }),
-        }
-    }
-
-    /// Reads a word and one of the form after it, if the word comes here.
-    fn option(self, word: &[u8], form: Form) -> Result<Reader<'a>, WordFault>
-        requires { self.taken ≤ 1000 }
-        ensures state { next_state result ≡ step (Bracket word.now form) (state_of self.entry) }
-        ensures taken { IfOk result (λ reader. reader.taken ≤ self.entry.taken + 2) }
-    {
-        if self.words.begin_with(word) {
-            self.passed().place(form)
-        } else {
-            Ok(self)
-        }
-    }
-
-    /// Passes over this word, if it comes here.
-    fn flag(self, word: &[u8]) -> Reader<'a>
-        requires { self.taken ≤ 1000 }
-        ensures state { Ok (state_of result) ≡ step (Flag word.now) (state_of self.entry) }
-        ensures taken { result.taken ≤ self.entry.taken + 1 }
-    {
-        if self.words.begin_with(word) {
-            self.passed()
-        } else {
-            self
         }
     }
 
@@ -143,17 +101,17 @@ impl<'a> Reader<'a> {
         ensures state { next_state result ≡ place form (state_of self.entry) }
         ensures taken { IfOk result (λ reader. reader.taken ≤ self.entry.taken + 1) }
     {
-        let here = self.taken + 1;
-        match self.words.split() {
-            Some((word, words)) => match self.found.with(form, word) {
-                Ok(found) => Ok(Reader {
-                    words,
-                    taken: here,
-                    found,
-                }),
-                Err(flaw) => Err(fault_at(here, flaw)),
-            },
-            None => Err(WordFault::BadWord(here)),
+        let taken = self.taken + 1;
+        let Some((word, words)) = self.words.split() else {
+            return Err(WordFault::BadWord(taken));
+        };
+        match self.found.with(form, word) {
+            Ok(found) => Ok(Reader {
+                words,
+                taken,
+                found,
+            }),
+            Err(flaw) => Err(fault_at(taken, flaw)),
         }
     }
 
@@ -163,20 +121,10 @@ impl<'a> Reader<'a> {
         ensures state { next_state result ≡ this_word word.now (state_of self.entry) }
         ensures taken { IfOk result (λ reader. reader.taken ≤ self.entry.taken + 1) }
     {
-        let taken = self.taken + 1;
-        match self.words.split() {
-            Some((first, words)) => {
-                if first == word {
-                    Ok(Reader {
-                        words,
-                        taken,
-                        found: self.found,
-                    })
-                } else {
-                    Err(WordFault::BadWord(taken))
-                }
-            }
-            None => Err(WordFault::BadWord(taken)),
+        if self.words.begin_with(word) {
+            Ok(self.passed())
+        } else {
+            Err(WordFault::BadWord(self.taken + 1))
         }
     }
 
@@ -186,32 +134,12 @@ impl<'a> Reader<'a> {
         ensures state { next_state result ≡ verdict (state_of self.entry) }
         ensures taken { IfOk result (λ reader. reader.taken ≤ self.entry.taken + 1) }
     {
-        let taken = self.taken + 1;
-        match self.words.split() {
-            Some((word, words)) => {
-                if word == b"permit".as_slice() {
-                    Ok(Reader {
-                        words,
-                        taken,
-                        found: Found {
-                            permit: true,
-                            ..self.found
-                        },
-                    })
-                } else if word == b"deny".as_slice() {
-                    Ok(Reader {
-                        words,
-                        taken,
-                        found: Found {
-                            permit: false,
-                            ..self.found
-                        },
-                    })
-                } else {
-                    Err(WordFault::BadWord(taken))
-                }
-            }
-            None => Err(WordFault::BadWord(taken)),
+        let mut reader = self.passed();
+        reader.found.permit = self.words.begin_with(b"permit");
+        if self.words.begin_with_verdict() {
+            Ok(reader)
+        } else {
+            Err(WordFault::BadWord(reader.taken))
         }
     }
 
@@ -234,10 +162,13 @@ impl<'a> Reader<'a> {
         ensures state { next_state result ≡ step Source (state_of self.entry) }
         ensures taken { IfOk result (λ reader. reader.taken ≤ self.entry.taken + 2) }
     {
-        match self.side(self.found.extended) {
-            Ok(reader) => Ok(reader.as_source()),
-            Err(fault) => Err(fault),
-        }
+        let reader = self.side(self.found.extended)?;
+        let found = Found {
+            from: reader.found.to,
+            to: whole(),
+            ..reader.found
+        };
+        Ok(Reader { found, ..reader })
     }
 
     /// Reads the destination ports, if the protocol has ports and words of them come here.
@@ -255,26 +186,7 @@ impl<'a> Reader<'a> {
         if !self.words.begin_with(b"range") {
             return Ok(self);
         }
-        match self.passed().place(Form::FirstPort) {
-            Ok(reader) => reader.place(Form::LastPort),
-            Err(fault) => Err(fault),
-        }
-    }
-
-    /// The side that was read is where packets come from.
-    fn as_source(self) -> Reader<'a>
-        ensures state { Ok (state_of result) ≡ as_source (state_of self.entry) }
-        ensures taken { result.taken ≡ self.entry.taken }
-    {
-        Reader {
-            words: self.words,
-            taken: self.taken,
-            found: Found {
-                from: self.found.to,
-                to: holding(0, 0),
-                ..self.found
-            },
-        }
+        self.passed().place(Form::FirstPort)?.place(Form::LastPort)
     }
 
     /// Reads one side of an entry.
@@ -284,31 +196,19 @@ impl<'a> Reader<'a> {
         ensures taken { IfOk result (λ reader. reader.taken ≤ self.entry.taken + 2) }
     {
         if self.words.begin_with(b"any") {
-            return Ok(self.any());
+            let found = Found {
+                to: whole(),
+                ..self.found
+            };
+            return Ok(Reader {
+                found,
+                ..self.passed()
+            });
         }
         if self.words.begin_with(b"host") {
             return self.passed().place(Form::Host);
         }
-        match self.place(Form::Address) {
-            Ok(reader) => reader.width(extended),
-            Err(fault) => Err(fault),
-        }
-    }
-
-    /// Passes over the word for all addresses.
-    fn any(self) -> Reader<'a>
-        requires { self.taken ≤ 1000 }
-        ensures state { state_of result ≡ any (state_of self.entry) }
-        ensures taken { result.taken ≡ self.entry.taken + 1 }
-    {
-        Reader {
-            words: self.words.rest(),
-            taken: self.taken + 1,
-            found: Found {
-                to: holding(0, 0),
-                ..self.found
-            },
-        }
+        self.place(Form::Address)?.width(extended)
     }
 
     /// Reads the wildcard of an address, or takes the address for one host where that is allowed.
@@ -318,7 +218,11 @@ impl<'a> Reader<'a> {
         ensures taken { IfOk result (λ reader. reader.taken ≤ self.entry.taken + 1) }
     {
         if !extended && self.stands_alone() {
-            return Ok(self.alone());
+            let found = Found {
+                to: holding(self.found.address, 32),
+                ..self.found
+            };
+            return Ok(Reader { found, ..self });
         }
         self.place(Form::Wildcard)
     }
@@ -330,21 +234,6 @@ impl<'a> Reader<'a> {
         match self.words.split() {
             Some((word, _)) => word == b"log".as_slice(),
             None => true,
-        }
-    }
-
-    /// The address is one host.
-    fn alone(self) -> Reader<'a>
-        ensures state { state_of result ≡ alone (state_of self.entry) }
-        ensures taken { result.taken ≡ self.entry.taken }
-    {
-        Reader {
-            words: self.words,
-            taken: self.taken,
-            found: Found {
-                to: holding(self.found.address, 32),
-                ..self.found
-            },
         }
     }
 }

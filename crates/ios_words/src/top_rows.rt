@@ -7,21 +7,20 @@ ghost use Rattle.ios_words.specs.declared.kinds.BlockKind.TheVariants as blocks;
 ghost use Rattle.ios_words.specs.Rows.{rule_of};
 ghost use Rattle.ios_words.specs.Trials.{is_short};
 
-use crate::rows::Part::{Place, Word};
-use crate::rows::{Form, Meaning, Part, Row, inert, row};
-
-const TOP_UPPER_B: &[Row] = &[inert!(b"Building", b"configuration...")];
-
-const TOP_UPPER_C: &[Row] = &[inert!(b"Current", b"configuration")];
+use crate::rows::Form::{AtLeast, AtMost, FaceName, ListNumber, Name, Number, Order, Route};
+use crate::rows::Part::{
+    Anything, Destination, Flag, Option, Place, Ports, Protocol, Source, Verdict, Word,
+};
+use crate::rows::{Meaning, Part, Row, inert, row};
 
 const TOP_A: &[Row] = &[
     inert!(b"aaa"),
     inert!(b"archive"),
     inert!(b"alias"),
-    row!(Inert: Word(b"access-list"), Place(Form::ListNumber), Word(b"remark"), Part::Anything),
+    row!(Inert: Word(b"access-list"), Place(ListNumber), Word(b"remark"), Anything),
     row!(ListLine:
-        Word(b"access-list"), Place(Form::ListNumber), Part::Verdict, Part::Protocol,
-        Part::Source, Part::Destination, Part::Ports, Part::Flag(b"log")
+        Word(b"access-list"), Place(ListNumber), Verdict, Protocol, Source, Destination, Ports,
+        Flag(b"log")
     ),
 ];
 
@@ -40,22 +39,16 @@ const TOP_C: &[Row] = &[
     inert!(b"cdp"),
 ];
 
-const TOP_D: &[Row] = &[inert!(b"diagnostic")];
-
 const TOP_E: &[Row] = &[
     inert!(b"enable"),
     inert!(b"ethernet", b"lmi"),
     inert!(b"end"),
 ];
 
-const TOP_G: &[Row] = &[inert!(b"gatekeeper")];
-
 const TOP_H: &[Row] = &[
     inert!(b"hw-module"),
-    row!(Hostname: Word(b"hostname"), Place(Form::Name)),
+    row!(Hostname: Word(b"hostname"), Place(Name)),
 ];
-
-const TOP_I: &[Row] = &[row!(Interface: Word(b"interface"), Place(Form::FaceName))];
 
 const TOP_L: &[Row] = &[
     inert!(b"logging"),
@@ -90,12 +83,10 @@ const TOP_N: &[Row] = &[
     inert!(b"no", b"cdp"),
 ];
 
-const TOP_P: &[Row] = &[inert!(b"platform")];
-
 const TOP_R: &[Row] = &[
     inert!(b"redundancy"),
-    row!(RouterOspf: Word(b"router"), Word(b"ospf"), Place(Form::Number(1, 65535))),
-    row!(RouterBgp: Word(b"router"), Word(b"bgp"), Place(Form::Number(1, 4294967295))),
+    row!(RouterOspf: Word(b"router"), Word(b"ospf"), Place(Number(1, 65535))),
+    row!(RouterBgp: Word(b"router"), Word(b"bgp"), Place(Number(1, 4294967295))),
 ];
 
 const TOP_S: &[Row] = &[
@@ -106,18 +97,10 @@ const TOP_S: &[Row] = &[
     inert!(b"subscriber"),
 ];
 
-const TOP_U: &[Row] = &[inert!(b"username"), inert!(b"upgrade")];
-
-const TOP_V: &[Row] = &[inert!(b"version"), inert!(b"vtp")];
-
 const TOP_IP_A: &[Row] = &[
-    row!(ExtendedList: Word(b"ip"), Word(b"access-list"), Word(b"extended"), Place(Form::Name)),
-    row!(StandardList: Word(b"ip"), Word(b"access-list"), Word(b"standard"), Place(Form::Name)),
+    row!(ExtendedList: Word(b"ip"), Word(b"access-list"), Word(b"extended"), Place(Name)),
+    row!(StandardList: Word(b"ip"), Word(b"access-list"), Word(b"standard"), Place(Name)),
 ];
-
-const TOP_IP_B: &[Row] = &[inert!(b"ip", b"bgp-community")];
-
-const TOP_IP_C: &[Row] = &[inert!(b"ip", b"cef"), inert!(b"ip", b"classless")];
 
 const TOP_IP_D: &[Row] = &[
     inert!(b"ip", b"domain"),
@@ -125,22 +108,12 @@ const TOP_IP_D: &[Row] = &[
     inert!(b"ip", b"domain-lookup"),
 ];
 
-const TOP_IP_F: &[Row] = &[inert!(b"ip", b"forward-protocol")];
-
-const TOP_IP_H: &[Row] = &[inert!(b"ip", b"host"), inert!(b"ip", b"http")];
-
-const TOP_IP_N: &[Row] = &[inert!(b"ip", b"name-server")];
-
 const TOP_IP_P: &[Row] = &[
     inert!(b"ip", b"prefix-list", b"sequence-number"),
-    row!(Inert:
-        Word(b"ip"), Word(b"prefix-list"), Place(Form::Name), Word(b"description"),
-        Part::Anything
-    ),
+    row!(Inert: Word(b"ip"), Word(b"prefix-list"), Place(Name), Word(b"description"), Anything),
     row!(PrefixLine:
-        Word(b"ip"), Word(b"prefix-list"), Place(Form::Name),
-        Part::Option(b"seq", Form::Order(4294967294)), Part::Verdict, Place(Form::Route),
-        Part::Option(b"ge", Form::AtLeast), Part::Option(b"le", Form::AtMost)
+        Word(b"ip"), Word(b"prefix-list"), Place(Name), Option(b"seq", Order(4294967294)), Verdict,
+        Place(Route), Option(b"ge", AtLeast), Option(b"le", AtMost)
     ),
 ];
 
@@ -151,32 +124,30 @@ const TOP_IP_S: &[Row] = &[
     inert!(b"ip", b"source-route"),
 ];
 
-const TOP_IP_T: &[Row] = &[inert!(b"ip", b"tcp"), inert!(b"ip", b"tftp")];
-
 /// The rows whose first word is not `ip` and begins with this letter.
 pub(crate) fn top_rows(letter: u8) -> &'static [Row]
     ensures rows { map rule_of result.now ≡ filter (has_letter letter) (rows blocks.Top) }
     ensures short { IsTrue (list_all is_short (map rule_of result.now)) }
 {
     match letter {
-        b'B' => TOP_UPPER_B,
-        b'C' => TOP_UPPER_C,
+        b'B' => &[inert!(b"Building", b"configuration...")],
+        b'C' => &[inert!(b"Current", b"configuration")],
         b'a' => TOP_A,
         b'b' => TOP_B,
         b'c' => TOP_C,
-        b'd' => TOP_D,
+        b'd' => &[inert!(b"diagnostic")],
         b'e' => TOP_E,
-        b'g' => TOP_G,
+        b'g' => &[inert!(b"gatekeeper")],
         b'h' => TOP_H,
-        b'i' => TOP_I,
+        b'i' => &[row!(Interface: Word(b"interface"), Place(FaceName))],
         b'l' => TOP_L,
         b'm' => TOP_M,
         b'n' => TOP_N,
-        b'p' => TOP_P,
+        b'p' => &[inert!(b"platform")],
         b'r' => TOP_R,
         b's' => TOP_S,
-        b'u' => TOP_U,
-        b'v' => TOP_V,
+        b'u' => &[inert!(b"username"), inert!(b"upgrade")],
+        b'v' => &[inert!(b"version"), inert!(b"vtp")],
         _ => &[],
     }
 }
@@ -188,15 +159,15 @@ pub(crate) fn top_ip_rows(letter: u8) -> &'static [Row]
 {
     match letter {
         b'a' => TOP_IP_A,
-        b'b' => TOP_IP_B,
-        b'c' => TOP_IP_C,
+        b'b' => &[inert!(b"ip", b"bgp-community")],
+        b'c' => &[inert!(b"ip", b"cef"), inert!(b"ip", b"classless")],
         b'd' => TOP_IP_D,
-        b'f' => TOP_IP_F,
-        b'h' => TOP_IP_H,
-        b'n' => TOP_IP_N,
+        b'f' => &[inert!(b"ip", b"forward-protocol")],
+        b'h' => &[inert!(b"ip", b"host"), inert!(b"ip", b"http")],
+        b'n' => &[inert!(b"ip", b"name-server")],
         b'p' => TOP_IP_P,
         b's' => TOP_IP_S,
-        b't' => TOP_IP_T,
+        b't' => &[inert!(b"ip", b"tcp"), inert!(b"ip", b"tftp")],
         _ => &[],
     }
 }
