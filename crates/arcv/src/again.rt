@@ -1,10 +1,10 @@
-//! Files that are read once more for a message.
-ghost use Rattle.net_doc.specs.Documents.{IsWellFormed};
-ghost use Rattle.std.specs.Prelude.{◌≤◌, length, IfSome};
+//! The words of a run and its files, which are read once more for a message.
+ghost use Rattle.std.specs.Prelude.{◌≤◌};
 
 use arc_base::Name;
-use arc_base::limits::ROUTER_FILE_LIMIT;
-use arc_outside::{DiskStore, read_all};
+use arc_base::limits::{PROOF_LIMIT, ROUTER_FILE_LIMIT};
+use arc_outside::{DiskStore, Pieces, read_all};
+use command_words::{Command, read_words};
 use net_model::Document;
 use run_inputs::read_document;
 use std::{fs, str};
@@ -12,45 +12,83 @@ use std::{fs, str};
 /// The files of the system.
 pub type Disk = DiskStore<HostRuntime>;
 
-/// Whether a file can be read a second time. A pipe cannot: reading it again would wait for ever.
-pub fn is_plain(rt: &HostRuntime, name: &[u8]) -> bool {
-    let Ok(path) = str::from_utf8(name) else {
-        return false;
-    };
-    match fs::metadata(rt, path) {
-        Ok(found) => found.is_file(),
-        Err(_) => false,
-    }
+/// The words of a run that has ended, and the files of the system.
+#[derive(Drop)]
+pub struct Again<'a> {
+    pub rt: &'a HostRuntime,
+    pub words: &'a [Name],
+    pub store: &'a mut Disk,
 }
 
-/// The text of a file, if it can be read again.
-pub fn text_again(rt: &HostRuntime, name: &Name, store: &mut Disk) -> Option<Vec<u8>>
-    ensures { IfSome result (λ text. length text.items ≤ ROUTER_FILE_LIMIT) }
-{
-    if !is_plain(rt, name.bytes()) {
-        return None;
-    }
-    read_all(rt.alloc(), store, name, ROUTER_FILE_LIMIT).ok()
-}
+impl<'a> Again<'a> {
+    ghost use Rattle.net_doc.specs.Documents.{IsWellFormed};
+    ghost use Rattle.std.specs.Prelude.{◌≤◌, length, IfSome};
 
-/// A document, if it can be read again.
-pub fn document_alone(rt: &HostRuntime, name: &Name, store: &mut Disk) -> Option<Document>
-    ensures { IfSome result IsWellFormed }
-{
-    if !is_plain(rt, name.bytes()) {
-        return None;
+    /// The command that the words match.
+    pub fn command(&self) -> Option<Command> {
+        read_words(self.rt.alloc(), self.words).ok()?
     }
-    read_document(rt.alloc(), name, store).ok()
-}
 
-/// A document, if it and its router files can be read again.
-pub fn document_again(rt: &HostRuntime, name: &Name, store: &mut Disk) -> Option<Document>
-    ensures { IfSome result IsWellFormed }
-{
-    let doc = document_alone(rt, name, store)?;
-    let mut names = doc.routers.slice().iter();
-    if !names.all(|name| is_plain(rt, name.bytes())) {
-        return None;
+    /// Whether a file can be read a second time. A pipe cannot: reading it again would wait for
+    /// ever.
+    fn is_plain(&self, name: &Name) -> bool {
+        let Ok(path) = str::from_utf8(name.bytes()) else {
+            return false;
+        };
+        match fs::metadata(self.rt, path) {
+            Ok(found) => found.is_file(),
+            Err(_) => false,
+        }
     }
-    Some(doc)
+
+    /// The text of a file, if it can be read again.
+    pub fn text(&mut self, name: &Name) -> Option<Vec<u8>>
+        ensures { IfSome result (λ text. length text.items ≤ ROUTER_FILE_LIMIT) }
+    {
+        if !self.is_plain(name) {
+            return None;
+        }
+        read_all(self.rt.alloc(), self.store, name, ROUTER_FILE_LIMIT).ok()
+    }
+
+    /// A document, if it can be read again.
+    pub fn document(&mut self, name: &Name) -> Option<Document>
+        ensures { IfSome result IsWellFormed }
+    {
+        if !self.is_plain(name) {
+            return None;
+        }
+        read_document(self.rt.alloc(), name, self.store).ok()
+    }
+
+    /// A document, if it and its router files can be read again.
+    pub fn whole_document(&mut self, name: &Name) -> Option<Document>
+        ensures { IfSome result IsWellFormed }
+    {
+        let doc = self.document(name)?;
+        let mut names = doc.routers.slice().iter();
+        if !names.all(|name| self.is_plain(name)) {
+            return None;
+        }
+        Some(doc)
+    }
+
+    /// The pieces of a file whose lines are read one by one, if it can be read again.
+    pub fn pieces(&self, name: &Name) -> Option<Pieces> {
+        if !self.is_plain(name) {
+            return None;
+        }
+        Some(Pieces::make(self.rt.alloc(), PROOF_LIMIT))
+    }
+
+    /// The next line of a file, until its end or a failure.
+    pub fn line<'b>(&mut self, pieces: &'b mut Pieces, name: &Name) -> Option<&'b [u8]> {
+        if pieces.failed() {
+            return None;
+        }
+        match pieces.next(self.store, name) {
+            Ok(true) => Some(pieces.line()),
+            _ => None,
+        }
+    }
 }

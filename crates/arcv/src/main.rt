@@ -9,8 +9,8 @@ mod messages;
 mod notes;
 mod progress;
 mod refusals;
-mod rejections;
 
+use crate::again::Again;
 use crate::messages::explain;
 use crate::progress::ProgressLine;
 use arc_base::{List, Memory, Name};
@@ -47,6 +47,11 @@ fn main(rt: HostRuntime) -> ExitCode {
     let mut line = ProgressLine::make(&rt);
     let ended = run_telling(alloc, words.slice(), &mut store, &mut out, &mut line);
     let _erased = line.erase();
-    let _said = explain(&rt, words.slice(), &ended, &mut store);
+    let mut again = Again {
+        rt: &rt,
+        words: words.slice(),
+        store: &mut store,
+    };
+    let _said = explain(&mut again, &ended);
     ExitCode::from(ended.status.code)
 }

@@ -1,53 +1,36 @@
 //! Messages on standard error about how a run ended.
 
-use crate::again::Disk;
+use crate::again::{Again, Disk};
 use crate::notes::explain_answer;
 use crate::refusals::explain_refusal;
 use arc_base::Name;
 use arc_outside::Operation;
 use arc_run::{Ended, Outcome};
 use command_words::{command_forms, form_named};
-use run_messages::{
-    VERSION, asks_for_help, asks_for_version, front_of, near_form, visible, words_fault,
-};
-use std::io::Write;
+use run_messages::{Shown, words_fault};
 use std::{env, io, str};
 
-/// Writes these pieces as one line. Control characters other than tabs are shown as question marks,
-/// and in a piece that is not UTF-8 text each byte above 127 as an escape.
-pub fn say(rt: &HostRuntime, pieces: &[&[u8]]) -> io::Result<()> {
-    let mut err = rt.stderr();
-    for piece in pieces {
-        err.write_all(visible(rt.alloc(), piece)?.as_slice())?;
-    }
-    err.write_all(b"\n")
-}
+/// The version of the program, as in CHANGELOG.md.
+const VERSION: &str = "1.1.0";
 
 /// Prints the forms of all commands, and what their words mean.
 fn explain_commands(rt: &HostRuntime) -> io::Result<()> {
     for form in command_forms() {
-        let usage = form.to_string(rt.alloc())?;
-        say(rt, &[b"arcv ", usage.as_bytes()])?;
-        say(rt, &[b"    ", form.meaning.as_bytes()])?;
+        eprintln!(rt; "arcv {form}\n    {}", form.meaning)?;
     }
-    say(rt, &[b"The manual is docs/manual.md beside the sources."])
+    eprintln!(rt; "The manual is docs/manual.md beside the sources.")
 }
 
-/// Says that the first word names no command, and which one may be meant.
+/// Says that the first word names no command, and which one may be meant: one whose name begins
+/// with its first three letters.
 fn explain_name(rt: &HostRuntime, word: &[u8]) -> io::Result<()> {
-    let Some(form) = near_form(word) else {
-        return say(rt, &[b"arcv: no command is named ", word]);
-    };
-    let name = form.name;
-    let near = format!(in rt.alloc(); "; is it {name}?")?;
-    say(
-        rt,
-        &[
-            b"arcv: no command is named ",
-            front_of(word),
-            near.as_bytes(),
-        ],
-    )
+    eprint!(rt; "arcv: no command is named {}", Shown(word))?;
+    let front = word.get(..3).unwrap_or(b"?");
+    let mut forms = command_forms().iter();
+    match forms.find(|form| form.name.as_bytes().starts_with(front)) {
+        Some(form) => eprintln!(rt; "; is it {}?", form.name),
+        None => eprintln!(rt; ""),
+    }
 }
 
 /// Says what is wrong with words that match no command, and the form of the command that the first
@@ -55,68 +38,57 @@ fn explain_name(rt: &HostRuntime, word: &[u8]) -> io::Result<()> {
 fn explain_words(rt: &HostRuntime, words: &[Name]) -> io::Result<()> {
     let Some(command) = words.first() else {
         return match env::args(rt) {
-            Ok(_) => say(rt, &[b"arcv: a command is missing"]),
-            Err(_) => say(rt, &[b"arcv: a word is not UTF-8"]),
+            Ok(_) => eprintln!(rt; "arcv: a command is missing"),
+            Err(_) => eprintln!(rt; "arcv: a word is not UTF-8"),
         };
     };
-    if asks_for_help(command.bytes()) {
-        return explain_commands(rt);
+    match command.bytes() {
+        b"--help" | b"-h" | b"help" => return explain_commands(rt),
+        b"--version" | b"-V" | b"version" => return eprintln!(rt; "arcv {VERSION}"),
+        _ => {}
     }
-    if asks_for_version(command.bytes()) {
-        return say(rt, &[b"arcv ", VERSION.as_bytes()]);
-    }
-    let named = match str::from_utf8(command.bytes()) {
-        Ok(name) => form_named(name),
-        Err(_) => None,
-    };
-    let Some(form) = named else {
+    let name = str::from_utf8(command.bytes()).unwrap_or("");
+    let Some(form) = form_named(name) else {
         return explain_name(rt, command.bytes());
     };
     if let Some(fault) = words_fault(rt.alloc(), form, words) {
-        say(rt, &[b"arcv: ", fault.as_bytes()])?;
+        eprintln!(rt; "arcv: {fault}")?;
     }
-    let usage = form.to_string(rt.alloc())?;
-    say(rt, &[b"usage: arcv ", usage.as_bytes()])?;
-    say(rt, &[b"where ", form.meaning.as_bytes()])
+    eprintln!(rt; "usage: arcv {form}\nwhere {}", form.meaning)
 }
 
 /// Says which file could not be read or written, and the system's reason.
 fn explain_failure(rt: &HostRuntime, store: &Disk) -> io::Result<()> {
     let Some(failure) = store.failure() else {
-        return say(rt, &[b"arcv: a file could not be read or written"]);
+        return eprintln!(rt; "arcv: a file could not be read or written");
     };
     let operation = match failure.operation {
-        Operation::Reading => b"arcv: cannot read ".as_slice(),
-        Operation::Writing => b"arcv: cannot write ".as_slice(),
+        Operation::Reading => "read",
+        Operation::Writing => "write",
     };
-    if let Some(read_as) = &failure.read_as {
-        let why = b" was read in this run, and is not written over".as_slice();
-        return say(
-            rt,
-            &[operation, failure.name.bytes(), b": ", read_as.bytes(), why],
-        );
+    eprint!(rt;
+        "arcv: cannot {operation} {}: ",
+        Shown(failure.name.bytes())
+    )?;
+    match &failure.read_as {
+        Some(name) => {
+            let name = Shown(name.bytes());
+            eprintln!(rt; "{name} was read in this run, and is not written over")
+        }
+        None => eprintln!(rt; "{}", failure.error),
     }
-    let why = failure.error.to_string(rt.alloc())?;
-    say(
-        rt,
-        &[operation, failure.name.bytes(), b": ", why.as_bytes()],
-    )
 }
 
 /// Explains how a run ended, beyond its output and status.
-pub fn explain(
-    rt: &HostRuntime,
-    words: &[Name],
-    ended: &Ended,
-    store: &mut Disk,
-) -> io::Result<()> {
+pub fn explain(again: &mut Again<'_>, ended: &Ended) -> io::Result<()> {
+    let rt = again.rt;
     match (ended.status.code, &ended.outcome) {
-        (0 | 1, Some(Outcome::Done(done))) => explain_answer(rt, words, done, store),
-        (4, _) => explain_words(rt, words),
-        (5, Some(Outcome::Refused(refusal))) => explain_refusal(rt, words, refusal, store),
-        (6, _) => explain_failure(rt, store),
-        (7, _) => say(rt, &[b"arcv: cannot write to standard output"]),
-        (8, _) => say(rt, &[b"arcv: out of memory"]),
+        (0 | 1, Some(Outcome::Done(done))) => explain_answer(again, done),
+        (4, _) => explain_words(rt, again.words),
+        (5, Some(Outcome::Refused(refusal))) => explain_refusal(again, refusal),
+        (6, _) => explain_failure(rt, again.store),
+        (7, _) => eprintln!(rt; "arcv: cannot write to standard output"),
+        (8, _) => eprintln!(rt; "arcv: out of memory"),
         _ => Ok(()),
     }
 }

@@ -2,8 +2,9 @@
 //! overwritten in place, and erased before the run writes or prints anything.
 
 use run_progress::{Listener, Work};
+use std::alloc::AllocError;
 use std::env::VarError;
-use std::io::{IsTerminal, Write};
+use std::io::IsTerminal;
 use std::time::{Duration, Instant};
 use std::{env, io};
 
@@ -54,48 +55,34 @@ impl<'a> ProgressLine<'a> {
         } else {
             FIRST_LINE_AFTER
         };
-        match since.elapsed(self.rt) {
-            Ok(time) => time >= Duration::from_millis(pause),
-            Err(_) => false,
-        }
-    }
-
-    /// The text of the line during a search.
-    fn search_text(&self, conflicts: u64) -> io::Result<String> {
-        let alloc = self.rt.alloc();
-        let text = match self.best {
-            Some(price) => {
-                format!(in alloc; "searching: {conflicts} conflicts, best price so far {price}")?
-            }
-            None => format!(in alloc; "searching: {conflicts} conflicts")?,
-        };
-        Ok(text)
+        matches!(since.elapsed(self.rt), Ok(time) if time >= Duration::from_millis(pause))
     }
 
     /// The text of the line for the work.
-    fn text(&self, work: Work) -> io::Result<String> {
+    fn text(&self, work: Work) -> Result<String, AllocError> {
         let alloc = self.rt.alloc();
-        let text = match work {
-            Work::Reading => String::from_str(alloc, "reading")?,
-            Work::Judging { place, count } => {
+        match (work, self.best) {
+            (Work::Reading, _) => String::from_str(alloc, "reading"),
+            (Work::Judging { place, count }, _) => {
                 let number = place.saturating_add(1);
-                format!(in alloc; "judging policy {number} of {count}")?
+                format!(in alloc; "judging policy {number} of {count}")
             }
-            Work::Searching { conflicts } => self.search_text(conflicts)?,
-            Work::Found { price } => format!(in alloc; "searching: best price so far {price}")?,
-            Work::Ending => String::from_str(alloc, "writing")?,
-        };
-        Ok(text)
+            (Work::Searching { conflicts }, Some(price)) => {
+                format!(in alloc; "searching: {conflicts} conflicts, best price so far {price}")
+            }
+            (Work::Searching { conflicts }, None) => {
+                format!(in alloc; "searching: {conflicts} conflicts")
+            }
+            (Work::Found { price }, _) => format!(in alloc; "searching: best price so far {price}"),
+            (Work::Ending, _) => String::from_str(alloc, "writing"),
+        }
     }
 
     /// Writes the line over the previous one.
     fn show(&mut self, work: Work) -> io::Result<()> {
         let text = self.text(work)?;
         self.is_shown = true;
-        let mut err = self.rt.stderr();
-        err.write_all(b"\rarcv: ")?;
-        err.write_all(text.as_bytes())?;
-        err.write_all(b"\x1b[K")?;
+        eprint!(self.rt; "\rarcv: {text}\x1b[K")?;
         self.since = Some(Instant::now(self.rt)?);
         Ok(())
     }
@@ -105,8 +92,7 @@ impl<'a> ProgressLine<'a> {
         self.since = None;
         if self.is_shown {
             self.is_shown = false;
-            let mut err = self.rt.stderr();
-            err.write_all(b"\r\x1b[K")?;
+            eprint!(self.rt; "\r\x1b[K")?;
         }
         Ok(())
     }

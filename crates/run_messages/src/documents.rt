@@ -51,20 +51,19 @@ fn wrong_item(
 /// The part that makes a JSON value no document, if it can be found: `document` judges each link
 /// and policy by itself.
 fn wrong_part(alloc: Global, value: &Value) -> Result<Option<String>, AllocError> {
-    let version = match value.get("version") {
-        Some(version) => version.to_string(alloc)?,
-        None => return Ok(None),
+    let Some(version) = value.get("version") else {
+        return Ok(None);
     };
+    let version = version.to_string(alloc)?;
     if is_out_of_form(alloc, &version, "", "")? {
         return Ok(Some(String::from_str(alloc, "the version")?));
     }
-    if let Some(number) = wrong_item(alloc, &version, value, "links")? {
-        return Ok(Some(format!(in alloc; "link {number}")?));
+    for (list, item) in [("links", "link"), ("policies", "policy")] {
+        if let Some(number) = wrong_item(alloc, &version, value, list)? {
+            return Ok(Some(format!(in alloc; "{item} {number}")?));
+        }
     }
-    match wrong_item(alloc, &version, value, "policies")? {
-        Some(number) => Ok(Some(format!(in alloc; "policy {number}")?)),
-        None => Ok(None),
-    }
+    Ok(None)
 }
 
 /// The message for a text that is no JSON. The place is where reading stopped: at the wrong word or

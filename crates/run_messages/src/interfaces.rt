@@ -2,15 +2,15 @@
 ghost use Rattle.std.specs.Prelude.{◌<◌, ◌^◌, length};
 
 use crate::overlaps::config_of;
+use crate::showing::Shown;
 use arc_base::Name;
 use ios_config::{Config, FaceText};
 use std::alloc::Global;
-use std::str;
 
 /// The letters that an interface's name begins with, and the rest.
 fn parts(name: &[u8]) -> Option<(&[u8], &[u8])> {
     let end = name.iter().position(|byte| !byte.is_ascii_alphabetic())?;
-    Some((name.get(..end)?, name.get(end..)?))
+    name.split_at_checked(end)
 }
 
 /// Whether the command line of IOS would take the word for the name: the letters may be
@@ -46,15 +46,12 @@ pub fn missing_face(alloc: Global, text: &[u8], router: &Name, face: &Name) -> O
     if !hostname.name.is(router.bytes()) || faces.any(|it| it.name.is(face.bytes())) {
         return None;
     }
-    let near = near_face(&config, face.bytes());
-    let (router, face) = (
-        str::from_utf8(router.bytes()).ok()?,
-        str::from_utf8(face.bytes()).ok()?,
-    );
-    match near.and_then(|near| str::from_utf8(near.name.bytes()).ok()) {
+    let (router, word) = (Shown(router.bytes()), Shown(face.bytes()));
+    match near_face(&config, face.bytes()) {
         Some(near) => {
-            format!(in alloc; "{router} has no interface {face}; is it {router}:{near}?").ok()
+            let near = Shown(near.name.bytes());
+            format!(in alloc; "{router} has no interface {word}; is it {router}:{near}?").ok()
         }
-        None => format!(in alloc; "{router} has no interface {face}").ok(),
+        None => format!(in alloc; "{router} has no interface {word}").ok(),
     }
 }

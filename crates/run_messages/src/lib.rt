@@ -5,34 +5,24 @@
 //! messages are.
 #![tactic(auto)]
 
-mod commands;
+mod blocks;
 mod documents;
 mod edits;
 mod interfaces;
 mod lines;
-#[cfg(test)]
-mod message_tests;
 mod outputs;
 mod overlaps;
 mod policies;
-mod refusals;
-mod rejections;
-mod reports;
 mod showing;
-#[cfg(test)]
-mod tests;
 mod words;
 
-pub use commands::{VERSION, asks_for_help, asks_for_version, document_of, near_form};
+pub use blocks::{Blocks, has_barred, is_barred, rejection_of};
 pub use documents::{document_fault, document_item};
 pub use edits::edits_of_new_lists;
 pub use interfaces::missing_face;
-pub use lines::{WrongWord, line_at, wrong_word};
-pub use outputs::clash;
+pub use lines::{line_at, wrong_word};
+pub use outputs::{clash, document_of};
 pub use overlaps::Subnets;
 pub use policies::policy_words;
-pub use refusals::{Subject, subject_of};
-pub use rejections::{Blocks, Rejected, rejection_of};
-pub use reports::{has_barred, is_barred};
-pub use showing::{front_of, visible};
+pub use showing::Shown;
 pub use words::words_fault;

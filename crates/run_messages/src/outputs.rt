@@ -1,10 +1,24 @@
-//! Why the names of files to be written are refused.
+//! Which files a command reads and writes, and why the names of those that it writes are refused.
 
-use crate::commands::document_of;
+use crate::showing::Shown;
 use arc_base::{Memory, Name};
 use command_words::Command;
 use file_copies::{copy_names, holds};
 use std::alloc::Global;
+
+/// The document that a command reads, if it reads one.
+pub fn document_of(command: &Command) -> Option<&Name> {
+    match command {
+        Command::Verify(document) | Command::Check(document, _) => Some(document),
+        Command::Trace(words) => Some(&words.document),
+        Command::Repair(words) => Some(&words.document),
+        Command::Apply(words) => Some(&words.document),
+        Command::Nodes(words) => Some(&words.document),
+        Command::Prefers(words) => Some(&words.document),
+        Command::Recheck(words) => Some(&words.document),
+        Command::Solve(_) | Command::Lrat(_, _) | Command::Generate(_) => None,
+    }
+}
 
 /// The names of the files that a command over these router files may write.
 fn outputs(alloc: Global, command: &Command, routers: &[Name]) -> Result<Vec<Name>, Memory> {
@@ -31,33 +45,22 @@ fn is_read(command: &Command, routers: &[Name], name: &Name) -> bool {
         Command::Solve(words) => Some(&words.formula),
         _ => None,
     };
-    document_of(command).is_some_and(|document| document.is(name.bytes()))
-        || other.is_some_and(|other| other.is(name.bytes()))
-        || holds(routers, name)
-}
-
-fn is_twice(names: &[Name], name: &Name) -> bool {
-    names.iter().filter(|other| other.is(name.bytes())).count() > 1
-}
-
-fn said(alloc: Global, name: &Name, why: &str) -> Option<Vec<u8>> {
-    let mut text = Vec::from_slice(alloc, name.bytes()).ok()?;
-    text.extend_from_slice(why.as_bytes()).ok()?;
-    Some(text)
+    let mut named = [document_of(command), other].into_iter().flatten();
+    named.any(|named| named.is(name.bytes())) || holds(routers, name)
 }
 
 /// Which output of a command over these router files is refused for its name, and why.
-pub fn clash(alloc: Global, command: &Command, routers: &[Name]) -> Option<Vec<u8>> {
+pub fn clash(alloc: Global, command: &Command, routers: &[Name]) -> Option<String> {
     let outputs = outputs(alloc, command, routers).ok()?;
-    for name in &outputs {
-        if is_read(command, routers, name) {
-            return said(
-                alloc,
-                name,
-                " is read by this command, and would be written over",
-            );
-        }
+    if let Some(name) = outputs.iter().find(|name| is_read(command, routers, name)) {
+        let name = Shown(name.bytes());
+        return format!(in alloc; "{name} is read by this command, and would be written over").ok();
     }
-    let repeated = outputs.iter().find(|name| is_twice(&outputs, name))?;
-    said(alloc, repeated, " would be written twice")
+    let is_twice = |name: &Name| outputs
+        .iter()
+        .filter(|other| other.is(name.bytes()))
+        .count()
+        > 1;
+    let name = Shown(outputs.iter().find(|name| is_twice(name))?.bytes());
+    format!(in alloc; "{name} would be written twice").ok()
 }

@@ -1,11 +1,14 @@
 //! Which two interfaces have overlapping subnets.
 ghost use Rattle.std.specs.Prelude.{◌<◌, ◌^◌, length};
 
-use arc_base::{Memory, Name, Prefix, push_address, push_number};
+use crate::showing::Shown;
+use arc_base::{Memory, Name, Prefix};
 use ios_config::{Config, FaceText, config};
 use ios_lines::cut;
 use net_model::{Document, LinkText};
 use std::alloc::Global;
+use std::fmt;
+use std::net::Ipv4Addr;
 
 /// An interface of a router with its address and subnet, and the line that gives them.
 #[derive(Drop)]
@@ -64,24 +67,19 @@ fn joins(link: &LinkText, a: &Subnet, b: &Subnet) -> bool {
         && link.b_face.is(b.face.bytes())
 }
 
-fn are_linked(doc: &Document, f: &Subnet, g: &Subnet) -> bool {
-    doc.links
-        .slice()
-        .iter()
-        .any(|link| joins(link, f, g) || joins(link, g, f))
+/// Whether the two interfaces overlap, and no link of the document joins them.
+fn is_overlap(doc: &Document, f: &Subnet, g: &Subnet) -> bool {
+    let mut links = doc.links.slice().iter();
+    !f.prefix.disjoint(&g.prefix) && !links.any(|link| joins(link, f, g) || joins(link, g, f))
 }
 
-/// Appends an interface, named as in a link of the document, with its address.
-fn push_subnet(alloc: Global, text: &mut Vec<u8>, subnet: &Subnet) -> Result<(), Memory> {
-    text.extend_from_slice(subnet.router.bytes())?;
-    text.push(b':')?;
-    text.extend_from_slice(subnet.face.bytes())?;
-    text.extend_from_slice(b" (")?;
-    push_address(alloc, text, subnet.addr)?;
-    text.push(b'/')?;
-    push_number(alloc, text, u64::from(subnet.prefix.len))?;
-    text.push(b')')?;
-    Ok(())
+/// The interface, named as in a link of the document, with its address.
+impl fmt::Display for Subnet {
+    fn fmt<W: fmt::Write>(&self, f: &mut fmt::Formatter<W>) -> fmt::Result {
+        let (router, face) = (Shown(self.router.bytes()), Shown(self.face.bytes()));
+        let (addr, len) = (Ipv4Addr::from_bits(self.addr), self.prefix.len);
+        write!(f, "{router}:{face} ({addr}/{len})")
+    }
 }
 
 impl Subnets {
@@ -112,28 +110,15 @@ impl Subnets {
         Ok(())
     }
 
-    /// The place of the interface of the last file whose address is on this line.
-    fn place_at(&self, line: u32) -> Option<usize> {
-        (self.earlier..self.rows.len()).find(|place| self.is_at(*place, line))
-    }
-
-    fn is_at(&self, place: usize, line: u32) -> bool {
-        self.rows.get(place).is_some_and(|row| row.line == line)
-    }
-
     /// The interface of the last file whose address is on this line, and the first one before it
     /// that it overlaps, in words.
-    pub fn overlap(&self, alloc: Global, doc: &Document, line: u32) -> Option<Vec<u8>> {
-        let place = self.place_at(line)?;
+    pub fn overlap(&self, alloc: Global, doc: &Document, line: u32) -> Option<String> {
+        let mut last = self.rows.get(self.earlier..)?.iter();
+        let place = self
+            .earlier
+            .checked_add(last.position(|row| row.line == line)?)?;
         let (second, others) = self.rows.get(..=place)?.split_last()?;
-        let first = others.iter().find(|row| !row.prefix.disjoint(&second.prefix)
-            && !are_linked(doc, row, second))?;
-        let mut text = Vec::new(alloc);
-        push_subnet(alloc, &mut text, first).ok()?;
-        text.extend_from_slice(b" and ").ok()?;
-        push_subnet(alloc, &mut text, second).ok()?;
-        let why = b" share addresses, and no link joins them";
-        text.extend_from_slice(why).ok()?;
-        Some(text)
+        let first = others.iter().find(|row| is_overlap(doc, row, second))?;
+        format!(in alloc; "{first} and {second} share addresses, and no link joins them").ok()
     }
 }

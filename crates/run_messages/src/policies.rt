@@ -7,30 +7,22 @@ use std::net::Ipv4Addr;
 /// The number of services of one protocol.
 const PORTS: u32 = 65_536;
 
-/// The ports of a service range within one protocol, in words; empty if it has all of them.
-fn ports(alloc: Global, service: &Service) -> Result<String, AllocError> {
-    let (low, high) = (service.low % PORTS, service.high % PORTS);
-    if low == 0 && high == PORTS - 1 {
-        return Ok(String::new(alloc));
-    }
-    if low == high {
-        return format!(in alloc; " and port {low}");
-    }
-    format!(in alloc; " and ports {low} to {high}")
-}
-
-/// The services of a policy, in words; empty if it has all of them.
+/// The services of a policy of a document, in words: those of one protocol, or of one of its ports;
+/// empty if it has all of them.
 fn services(alloc: Global, service: &Service) -> Result<String, AllocError> {
-    let (low, high) = (service.low / PORTS, service.high / PORTS);
-    if low != high {
+    let (protocol, port) = (service.low / PORTS, service.low % PORTS);
+    if protocol != service.high / PORTS {
         return Ok(String::new(alloc));
     }
-    let ports = ports(alloc, service)?;
-    match low {
-        6 => format!(in alloc; " of TCP{ports}"),
-        17 => format!(in alloc; " of UDP{ports}"),
-        _ => format!(in alloc; " of protocol {low}{ports}"),
+    let of = match protocol {
+        6 => format!(in alloc; " of TCP")?,
+        17 => format!(in alloc; " of UDP")?,
+        _ => format!(in alloc; " of protocol {protocol}")?,
+    };
+    if service.low < service.high {
+        return Ok(of);
     }
+    format!(in alloc; "{of} and port {port}")
 }
 
 /// How many links may have failed, in words.

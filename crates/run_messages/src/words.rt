@@ -1,11 +1,11 @@
 //! Why words match no command, in a sentence: what the reader of the words finds wrong.
 
+use crate::showing::Shown;
 use arc_base::Name;
 use arc_base::limits::{NAME_LIMIT, ROUTER_LIMIT};
 use command_words::{CommandForm, Fault, LAST_LINK, WrongWord, WrongWords, explain_words};
 use std::alloc::{AllocError, Global};
 use std::net::Ipv4Addr;
-use std::str;
 
 /// The first address of the network of an address and a prefix length.
 fn network(address: u32, length: u64) -> Ipv4Addr {
@@ -43,14 +43,9 @@ fn value_sentence(
     form: CommandForm,
     wrong: &WrongWord,
 ) -> Result<String, AllocError> {
-    let name = wrong.name;
-    let hyphens = if form.places.contains(&name) {
-        ""
-    } else {
-        "--"
-    };
-    let word = str::from_utf8(wrong.word.bytes()).unwrap_or("");
-    let why = wanted(alloc, wrong.fault)?;
+    let WrongWord { name, word, fault } = wrong;
+    let hyphens = if form.places.contains(name) { "" } else { "--" };
+    let (word, why) = (Shown(word.bytes()), wanted(alloc, *fault)?);
     format!(in alloc; "wrong word: {word} ({hyphens}{name} {why})")
 }
 
@@ -84,14 +79,11 @@ fn sentence(alloc: Global, form: CommandForm, wrong: &WrongWords) -> Result<Stri
     }
 }
 
-fn is_help(word: &[u8]) -> bool {
-    matches!(word, b"--help" | b"-h")
-}
-
 /// Why words that begin with the name of this command do not match its form. `None` if they match
 /// it, or if they are the name alone or ask for help, so that only the form is wanted.
 pub fn words_fault(alloc: Global, form: CommandForm, words: &[Name]) -> Option<String> {
-    if words.len() < 2 || words.iter().any(|word| is_help(word.bytes())) {
+    let asks_for_help = |word: &Name| matches!(word.bytes(), b"--help" | b"-h");
+    if words.len() < 2 || words.iter().any(asks_for_help) {
         return None;
     }
     match explain_words(alloc, words) {

@@ -1,35 +1,39 @@
-//! Which policy a rejected line of a certificate belongs to.
+//! The blocks of reports and certificates, each of a policy: yeses of blocked and through, and the
+//! block to which a rejected line belongs.
 
 use std::str;
-
-/// The parts of a line `rejected LINE WORD`.
-#[derive(Clone, Copy, Debug, PartialEq, Eq)]
-pub struct Rejected<'a> {
-    pub line: u64,
-    pub word: &'a [u8],
-}
 
 fn number_of(word: &[u8]) -> Option<u64> {
     str::from_utf8(word).ok()?.parse().ok()
 }
 
-/// The parts of the text, if it is such a line.
-pub fn rejection_of(text: &[u8]) -> Option<Rejected<'_>> {
-    let line = text.strip_suffix(b"\n")?.strip_prefix(b"rejected ")?;
+/// The kind, the answer and the number of witness lines that follow, if the line is the first one
+/// of a block.
+fn head_of(line: &[u8]) -> Option<(&[u8], &[u8], u64)> {
     let mut words = line.split(|byte| *byte == b' ');
-    let (line, word) = (number_of(words.next()?)?, words.next()?);
-    Some(Rejected { line, word })
-}
-
-/// The number of witness lines that follow, if the line is the first one of a block.
-fn witness_lines(line: &[u8]) -> Option<u64> {
-    let mut words = line.split(|byte| *byte == b' ');
-    let (number, kind) = (words.next()?, words.next()?);
-    number_of(number)?;
+    number_of(words.next()?)?;
+    let (kind, answer) = (words.next()?, words.next()?);
     if !matches!(kind, b"reach" | b"blocked" | b"through") {
         return None;
     }
-    number_of(words.nth(1)?)
+    Some((kind, answer, number_of(words.next()?)?))
+}
+
+/// Whether the line begins the block of a blocked or through policy whose answer is yes.
+pub fn is_barred(line: &[u8]) -> bool {
+    matches!(head_of(line), Some((b"blocked" | b"through", b"yes", _)))
+}
+
+/// Whether a line of the text begins the block of a blocked or through policy whose answer is yes.
+pub fn has_barred(text: &[u8]) -> bool {
+    text.split(|byte| *byte == b'\n').any(is_barred)
+}
+
+/// The number and the word of a text `rejected LINE WORD`.
+pub fn rejection_of(text: &[u8]) -> Option<(u64, &[u8])> {
+    let line = text.strip_suffix(b"\n")?.strip_prefix(b"rejected ")?;
+    let mut words = line.split(|byte| *byte == b' ');
+    Some((number_of(words.next()?)?, words.next()?))
 }
 
 /// How far a certificate was read through the blocks of its policies.
@@ -51,7 +55,7 @@ impl Blocks {
     pub fn take(&mut self, line: &[u8]) -> bool {
         if self.left > 0 {
             self.left -= 1;
-        } else if let Some(left) = witness_lines(line) {
+        } else if let Some((_, _, left)) = head_of(line) {
             self.begun = self.begun.saturating_add(1);
             self.left = left;
         }
