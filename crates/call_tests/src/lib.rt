@@ -12,5 +12,3 @@ mod cores;
 mod searches;
 #[cfg(test)]
 mod stores;
-#[cfg(test)]
-mod texts;
