@@ -1,17 +1,16 @@
 -- How a search looks at the arcs of a node's row.
-use Rattle.std.proofs.Common.{◌≡◌, ◌≢◌, ℕ, ◌+◌, ◌<◌, ◌≤◌, Bool, true, false, ◌||◌, List, filter_map, length, get_or, Contains, inl, inr, refl, sym, ap, ◌∙◌, subst, arith, Some, None, Option}
-use Rattle.std.specs.Prelude.{◌==◌, slice_index}
-use Rattle.std.proofs.lemmas.Bool.{cases_lt, eq-eqb}
+use Rattle.std.proofs.Common.{◌≡◌, ℕ, ◌+◌, ◌<◌, ◌≤◌, Bool, true, false, ◌||◌, List, filter_map, length, get_or, Contains, inl, inr, refl, sym, ap, ◌∙◌, subst, arith, Some, None, Option}
+use Rattle.std.specs.Prelude.{slice_index}
+use Rattle.std.proofs.lemmas.Bool.{cases_lt}
 use Rattle.std.proofs.lemmas.List.{get_or_default}
 use Rattle.std.proofs.lemmas.List.Elements.{All-contains, Contains-get_or}
 use Rattle.graph_flow.specs.declared.arcs.Arc.{Arc}
 use Rattle.graph_flow.specs.declared.search.Mark.{Mark}
 use Rattle.graph_flow.specs.Paths.{Digraph, IsGraph, Joins}
-use Rattle.graph_flow.specs.Flows.{Units, unit_at}
-use Rattle.graph_flow.specs.Residual.{residual, residual_of, touching, touches}
+use Rattle.graph_flow.specs.Residual.{touching, touches}
 use Rattle.graph_flow.specs.Marks.{IsSearch, Follows, Steps}
-use Rattle.graph_flow.proofs.Lists.{filter-member, filter-from}
-use Rattle.graph_flow.proofs.Residuals.{none_or_some, Source, residual-source, filter_map-member, filter_map-from, back_cases}
+use Rattle.graph_flow.proofs.Lists.{filter-from}
+use Rattle.graph_flow.proofs.Residuals.{none_or_some, filter_map-member}
 use Rattle.graph_flow.proofs.Searches.{Seen, IsFollowed, followed, looked-more}
 
 -- a search that has looked at the first arcs of a node's row, each of which gives an arc or none

@@ -1,16 +1,10 @@
 -- The arcs that are open, among those of a graph.
-use Rattle.std.proofs.Common.{◌≡◌, ◌<◌, true, List, Contains, ap, subst, Some, None, Option}
-use Rattle.std.specs.Prelude.{◌==◌, if◌then◌else◌}
-use Rattle.std.proofs.lemmas.Bool.{eq-eqb}
-use Rattle.std.proofs.lemmas.List.Elements.{All-contains}
+use Rattle.std.proofs.Common.{◌≡◌, true, List, Contains, ap, subst, Some, None, Option}
+use Rattle.std.specs.Prelude.{if◌then◌else◌}
 use Rattle.graph_flow.specs.declared.arcs.Arc.{Arc}
 use Rattle.graph_flow.specs.declared.arcs.OpenLink.{OpenLink}
 use Rattle.graph_flow.specs.OpenLinks.{is_open_way, row_of, open_of, open_arcs}
-use Rattle.graph_flow.specs.Paths.{Digraph, IsGraph, Joins}
-use Rattle.graph_flow.specs.Residual.{touching, touches}
-use Rattle.graph_flow.proofs.Lists.{filter-member}
 use Rattle.graph_flow.proofs.Residuals.{filter_map-member, filter_map-from}
-use Rattle.graph_flow.proofs.Looks.{or-left}
 use Rattle.graph_flow.proofs.Extracts.{if-arc}
 
 -- an open arc is given as it is

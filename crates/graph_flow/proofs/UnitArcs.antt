@@ -1,5 +1,5 @@
 -- The arcs of a graph that carry units, among which a path of units is found.
-use Rattle.std.proofs.Common.{◌≡◌, ℕ, ◌<◌, true, false, ◌&&◌, List, filter_map, Contains, inl, inr, refl, sym, ap, ◌∙◌, subst, Some, None, Option}
+use Rattle.std.proofs.Common.{◌≡◌, ℕ, ◌<◌, true, false, ◌&&◌, List, filter_map, Contains, inl, inr, refl, sym, ap, ◌∙◌, Some, None, Option}
 use Rattle.std.specs.Prelude.{◌==◌, if◌then◌else◌}
 use Rattle.std.proofs.lemmas.Bool.{cases_Bool, eq-eqb, eqb-true, and_parts, and_from}
 use Rattle.std.proofs.lemmas.List.Elements.{All-contains}
@@ -9,14 +9,13 @@ use Rattle.graph_flow.specs.declared.search.Mark.{Mark}
 use Rattle.graph_flow.specs.Flows.{Units, unit_at, leaving, IsFlow}
 use Rattle.graph_flow.specs.Marks.{mark_at, is_seen, way_to, IsMarked, IsSpread}
 use Rattle.graph_flow.specs.Paths.{Digraph, IsGraph, Joins, MayShare, Leads, IsArcPath, links_of}
-use Rattle.graph_flow.specs.Residual.{touching, touches, may_pass, laden_arc, unit_of, passable}
-use Rattle.graph_flow.proofs.Lists.{AllPairs-members, filter-member}
+use Rattle.graph_flow.specs.Residual.{may_pass, laden_arc, unit_of, passable}
+use Rattle.graph_flow.proofs.Lists.{AllPairs-members}
 use Rattle.graph_flow.proofs.Ways.{Path-over}
 use Rattle.graph_flow.proofs.Turns.{OnArcs}
 use Rattle.graph_flow.proofs.Residuals.{filter_map-member, filter_map-from}
 use Rattle.graph_flow.proofs.Searches.{Seen}
 use Rattle.graph_flow.proofs.Marked.{to-reached, leads-seen}
-use Rattle.graph_flow.proofs.Looks.{or-left}
 use Rattle.graph_flow.proofs.Extracts.{if-arc, no-arc, passable-unit, unit-passable, first-way}
 
 -- what an arc that carries a unit is given as

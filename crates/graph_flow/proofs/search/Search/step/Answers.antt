@@ -1,7 +1,6 @@
 use Rattle.std.proofs.Common.{refl, sym, subst, Option, ◌∙◌}
 use Rattle.graph_flow.specs.declared.arcs.Arc.{Arc}
 use Rattle.graph_flow.specs.Marks.{Steps}
-use Rattle.graph_flow.proofs.GivenArcs.{stays-behind}
 use Rattle.graph_flow.proofs.search.Search.step.Goals as goal
 
 pub follow-requires-clause-head : goal.follow-requires-clause-head
