@@ -1,22 +1,19 @@
 -- How an arc over which a search goes comes from an arc of the graph.
-use Rattle.std.proofs.Common.{◌≡◌, ◌≢◌, ℕ, ◌<◌, true, List, Option, Some, Contains, inl, inr, ◌⊎◌, refl, sym, ap, ◌∙◌, subst}
+use Rattle.std.proofs.Common.{◌≡◌, ◌<◌, true, List, Some, Contains, inl, inr, ◌⊎◌, sym, ap, ◌∙◌, subst}
 use Rattle.std.specs.Prelude.{◌==◌}
 use Rattle.std.proofs.lemmas.Bool.{eq-eqb}
 use Rattle.std.proofs.lemmas.List.Elements.{All-contains}
 use Rattle.graph_flow.specs.declared.arcs.Arc.{Arc}
-use Rattle.graph_flow.specs.declared.search.Mark.{Mark}
 use Rattle.graph_flow.specs.declared.searched_arcs.Ways.{Ways}
 use Rattle.graph_flow.specs.declared.searched_arcs.Ways.TheVariants.{Room, Open, Units}
 use Rattle.graph_flow.specs.Flows.{unit_at}
-use Rattle.graph_flow.specs.Marks.{Steps}
 use Rattle.graph_flow.specs.Paths.{Digraph, IsGraph, Joins}
 use Rattle.graph_flow.specs.Residual.{reversed, touching, touches}
 use Rattle.graph_flow.specs.SearchedArcs.{gives, arcs_by, TakesBack, AreWays}
 use Rattle.graph_flow.proofs.Lists.{filter-member}
 use Rattle.graph_flow.proofs.Looks.{or-left, or-right}
 use Rattle.graph_flow.proofs.OpenArcs.{open-is}
-use Rattle.graph_flow.proofs.Residuals.{none_or_some, filter_map-from, back_cases}
-use Rattle.graph_flow.proofs.Searches.{Seen}
+use Rattle.graph_flow.proofs.Residuals.{filter_map-from, back_cases}
 use Rattle.graph_flow.proofs.UnitArcs.{laden-is}
 
 -- it is that arc, or the unit over its link, turned round
@@ -48,22 +45,4 @@ head-below g ways arc is are m =
           subst (λ (x : Arc). x.head < g.nodes) same joins.head_node
       | inr (used, on, same, turned_is) ↦ let joins : Joins g.nodes used = All-contains (Joins g.nodes) g.arcs used is.joined (are (from.0).link.0 used on) in
           subst (λ (x : Arc). x.head < g.nodes) turned_is joins.tail_node
-    ]
-
--- what an arc gives that leads from the node to one that was seen does not lead elsewhere
-next-behind : (ways : Ways) (arc next : Arc) (node : ℕ) (marks : List Mark) → arc.tail ≢ arc.head → arc.tail ≡ node → Seen marks arc.head →
-    gives ways arc ≡ Some next → next.tail ≡ node → Seen marks next.head
-next-behind ways arc next node marks apart from seen e at =
-    elim (from-arc ways arc next e) [
-      | inl same ↦ subst (λ (x : Arc). Seen marks x.head) same seen
-      | inr (used, on, same, turned_is) ↦ absurd (apart (from ∙ sym at ∙ sym (ap (λ (x : Arc). x.tail) turned_is) ∙ same))
-    ]
-
-pub stays-behind : (ways : Ways) (arc : Arc) (node : ℕ) (marks : List Mark) (queue : List ℕ) (count : ℕ) → arc.tail ≢ arc.head → arc.tail ≡ node →
-    Seen marks arc.head → Steps (gives ways arc) marks queue count node marks queue count
-stays-behind ways arc node marks queue count apart from seen =
-    elim (none_or_some (gives ways arc)) [
-      | inl none ↦ subst (λ (o : Option Arc). Steps o marks queue count node marks queue count) (sym none) (refl, refl, refl)
-      | inr (next, e) ↦ subst (λ (o : Option Arc). Steps o marks queue count node marks queue count) (sym e)
-          (inl (record { seen = next-behind ways arc next node marks apart from seen e; same_marks = refl; same_queue = refl; same_count = refl }))
     ]
