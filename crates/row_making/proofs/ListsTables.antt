@@ -1,7 +1,7 @@
 -- Lists by their names, held by reference, and route lists by the neighbour at which they are bound.
 use Rattle.std.proofs.Common.{◌≡◌, ◌≢◌, ℕ, ◌+◌, ◌<◌, Bool, true, false, ◌&&◌, cond, Option, Some, None, List}
-use Rattle.std.proofs.Common.{[], ◌∷◌, ◌++◌, length, get_or, take, map, refl, sym, ◌∙◌, ap, subst, nat_eq, ◌==◌}
-use Rattle.std.specs.Prelude.{Contains, find, option_map, option_and_then, is_some, if◌then◌else◌, bytes_eq}
+use Rattle.std.proofs.Common.{[], ◌∷◌, ◌++◌, length, get_or, take, map, refl, sym, ◌∙◌, ap, subst, nat_eq}
+use Rattle.std.specs.Prelude.{Contains, find, option_map, is_some, if◌then◌else◌, bytes_eq}
 use Rattle.std.specs.Option.{option_or}
 use Rattle.std.specs.Map.{lookup, keys_of}
 use Rattle.std.specs.List.{IsDistinct}
@@ -18,7 +18,7 @@ use Rattle.ios_config.specs.declared.settings.Given.{Given}
 use Rattle.ios_config.specs.declared.settings.ListText.{ListText}
 use Rattle.net_rules.specs.Neighbors.{says_filter}
 use Rattle.net_rules.specs.Lists.{is_of_kind, has_entries, if_defined}
-use Rattle.row_making.specs.ListTables.{route_binding, list_if}
+use Rattle.row_making.specs.ListTables.{list_if}
 use Rattle.arc_base.proofs.Items.{Contains-map, from_map}
 use Rattle.net_rules.proofs.Distinct.{Contains-at, at_Contains}
 
@@ -101,16 +101,8 @@ defined_some found list is some = ap if_defined is ∙ cond-true (has_entries li
 pub defined_none : (found : Option ListText) (list : ListText) → found ≡ Some list → list.entries ≡ [] → if_defined found ≡ None
 defined_none found list is none = ap if_defined is ∙ ap (λ (l : List (Given Command)). if has_entries l then Some list else None) none
 
--- what a binding says of a neighbour
-abbrev pub filter_by : ℕ → Option (ℕ × List ℕ) → Option (List ℕ)
-filter_by peer binding = option_and_then (λ (b : ℕ × List ℕ). if b.0 == peer then Some b.1 else None) binding
-
-pub filter_is : (peer : ℕ) (command : Command) → filter_by peer (route_binding command) ≡ says_filter peer command
-filter_is peer (commands.NeighborList other list) = refl
-filter_is peer other = refl
-
 -- a filter that was put at a neighbour
-pub filter_put : (peer other : ℕ) (list : List ℕ) (before : Option (List ℕ)) → cond (nat_eq other peer) (Some list) before ≡ option_or (filter_by peer (Some (other, list))) before
+pub filter_put : (peer other : ℕ) (list : List ℕ) (before : Option (List ℕ)) → cond (nat_eq other peer) (Some list) before ≡ option_or (says_filter peer (commands.NeighborList other list)) before
 filter_put peer other list before = by (nat_eq other peer)
   where
     by : (b : Bool) → cond b (Some list) before ≡ option_or (if b then Some list else None) before

@@ -29,11 +29,6 @@ abbrev pub network_prefix : Protocol → Command → Option Prefix
 network_prefix Ospf command = covered_prefix command
 network_prefix Bgp command = told_prefix command
 
--- whether the command makes interfaces passive, and which one, or else all
-abbrev pub passive_setting : Command → Option (Bool × Option (List ℕ))
-passive_setting (commands.Passive on face) = Some (on, face)
-passive_setting other = None
-
 -- what a setting says of the interface of this name
 abbrev pub by_face : List ℕ → Bool → Option (List ℕ) → Option Bool
 by_face name on None = Some on

@@ -7,8 +7,6 @@ use Rattle.std.specs.Cmp.Lexicographic.{slice_cmp}
 use Rattle.std.specs.Ordering.{nat_cmp}
 use Rattle.std.specs.BTreeMap.{BTreeMap, get_by}
 use denote.Ref.{Bor}
-use Rattle.ios_words.specs.declared.commands.Command.{Command}
-use Rattle.ios_words.specs.declared.commands.Command.TheVariants as commands
 use Rattle.ios_config.specs.declared.settings.ListText.{ListText}
 use Rattle.net_rules.specs.Ordered.{AreInOrder}
 use Rattle.arc_base.specs.NameForms.{IsNameBefore, texts_at}
@@ -18,11 +16,6 @@ use Rattle.net_rules.specs.Lists.{is_of_kind}
 abbrev pub Adds : (List ℕ → Type 0) → List (Bor (List ℕ)) → List (Bor (List ℕ)) → Type 0
 Adds IsAdded old new =
     (name : List ℕ) → Contains (texts_at new) name ↔ (Contains (texts_at old) name ⊎ IsAdded name)
-
--- the neighbour, and the route list that the command binds at it
-abbrev pub route_binding : Command → Option (ℕ × List ℕ)
-route_binding (commands.NeighborList peer list) = Some (peer, list)
-route_binding other = None
 
 -- the list of this name in a map that holds lists by reference
 abbrev pub list_at : BTreeMap (Bor (List ℕ)) (Bor ListText) → List ℕ → Option ListText

@@ -4,7 +4,7 @@ ghost use Rattle.indexmap.specs.IndexMap.{get, IsUnique};
 ghost use Rattle.net_rules.specs.Lists.{IsBoundPacketList, IsBoundRouteList};
 ghost use Rattle.net_rules.specs.Neighbors.{says_filter, filter_of};
 ghost use Rattle.net_rules.specs.Settings.{value};
-ghost use Rattle.row_making.specs.ListTables.{Adds, route_binding};
+ghost use Rattle.row_making.specs.ListTables.{Adds};
 ghost use Rattle.std.specs.Option.{option_or};
 ghost use Rattle.std.specs.Prelude.{◌≡◌, ℕ, OnOk, IfOk, Some, option_map, nat_eq};
 
@@ -23,13 +23,10 @@ fn add_group<'a>(names: &mut Names<'a>, group: &'a Option<Given<Name>>) -> Resul
     ensures { OnOk result
         (Adds (λ name. value group.now ≡ Some name) names.old.keys names.new.keys) }
 {
-    match group {
-        Some(given) => {
-            names.insert(given.value.bytes())?;
-            Ok(())
-        }
-        None => Ok(()),
+    if let Some(given) = group {
+        names.insert(given.value.bytes())?;
     }
+    Ok(())
 }
 
 /// Adds the names of the packet lists that the interfaces of the file bind.
@@ -43,16 +40,6 @@ pub fn add_bound_packet<'a>(names: &mut Names<'a>, config: &'a Config) -> Result
     Ok(())
 }
 
-/// The neighbour, and the route list that the command binds at it.
-fn route_binding(command: &Command) -> Option<(u32, &Name)>
-    ensures { option_map (λ b. (b.0, b.1.now)) result ≡ route_binding command.now }
-{
-    match command {
-        Command::NeighborList(peer, list) => Some((*peer, list)),
-        _ => None,
-    }
-}
-
 /// Notes the route list that the command binds, in place of an earlier one.
 fn add_filter<'a>(filters: &mut IndexMap<u32, &'a [u8]>, command: &'a Command) -> Result<(), Memory>
     requires { IsUnique nat_eq filters.old }
@@ -62,13 +49,10 @@ fn add_filter<'a>(filters: &mut IndexMap<u32, &'a [u8]>, command: &'a Command) -
         ≡ option_or (says_filter peer command.now)
         (option_map (λ n. n.now) (get nat_eq filters.old peer))) }
 {
-    match route_binding(command) {
-        Some((peer, list)) => {
-            filters.insert(peer, list.bytes())?;
-            Ok(())
-        }
-        None => Ok(()),
+    if let Command::NeighborList(peer, list) = command {
+        filters.insert(*peer, list.bytes())?;
     }
+    Ok(())
 }
 
 /// The name of the route list that is bound at each neighbour.

@@ -29,11 +29,7 @@ fn is_host_route(protocol: Protocol, face: &FaceText) -> bool
 {
     match protocol {
         Protocol::Ospf => {
-            if FaceKind::of(face.name.bytes()).is_loopback() {
-                !is_point_to_point(&face.point, false)
-            } else {
-                false
-            }
+            FaceKind::of(face.name.bytes()).is_loopback() && !is_point_to_point(&face.point, false)
         }
         Protocol::Bgp => false,
     }
@@ -42,16 +38,11 @@ fn is_host_route(protocol: Protocol, face: &FaceText) -> bool
 fn host_address_of(protocol: Protocol, face: &FaceText) -> Option<(u32, u8)>
     ensures { result ≡ host_address_of protocol face.now }
 {
-    match address_of(face) {
-        None => None,
-        Some((address, len)) => {
-            if is_host_route(protocol, face) {
-                Some((address, 32))
-            } else {
-                Some((address, len))
-            }
-        }
+    let (address, len) = address_of(face)?;
+    if is_host_route(protocol, face) {
+        return Some((address, 32));
     }
+    Some((address, len))
 }
 
 /// The host network of the interface, if it is no link's end.

@@ -7,8 +7,6 @@
 #![tactic(auto)]
 
 mod bound_lists;
-mod commands;
-mod down_links;
 mod faces;
 mod links;
 mod lists;
@@ -17,9 +15,8 @@ mod process_index;
 mod routers;
 mod sessions;
 
-pub use down_links::try_down_links;
 pub use faces::{Surroundings, face_rows};
-pub use links::try_links;
+pub use links::{try_down_links, try_links};
 pub use lists::{packet_lists, route_lists};
 pub use places_of_lists::{index_packet_lists, index_route_lists};
 pub use routers::router_rows;

@@ -1,18 +1,20 @@
-//! The links of the document: the interfaces that they join.
-ghost use Rattle.net_rules.specs.Linking.{JoinsNamed, RefusesLinkFace};
+//! The links of the document: the interfaces that they join, and those that are to be down, by their
+//! numbers.
+ghost use Rattle.net_rules.specs.Linking.{JoinsNamed, RefusesLinkFace, RefusesDownLinks};
+ghost use Rattle.net_rules.specs.Linking.{first_above};
 ghost use Rattle.net_rules.specs.Names.{names_at};
-ghost use Rattle.net_rules.specs.Reasons.{Tried};
+ghost use Rattle.net_rules.specs.Reasons.{Tried, TriedAlone};
 ghost use Rattle.net_rules.specs.Rows.{IsLinkRow};
 ghost use Rattle.net_rules.specs.Sites.{a_end, b_end, ends_of, full_names};
 ghost use Rattle.std.specs.List.{AllZip};
 ghost use Rattle.std.specs.Prelude.{◌≡◌, ◌≢◌, ◌⊎◌, ◌≤◌, [], ◌∷◌, ◌++◌, Contains, IfOk, OnOk};
-ghost use Rattle.std.specs.Prelude.{MatchBool, MatchOption, length};
+ghost use Rattle.std.specs.Prelude.{MatchBool, MatchOption, length, option_copied};
 
 use arc_base::limits::LINK_LIMIT;
 use arc_base::{Face, Kind, List, Memory};
 use indexmap::IndexSet;
 use ios_config::Config;
-use net_doc::NetFault;
+use net_doc::{NetFault, Refusal};
 use net_model::{Document, LinkRow, LinkText};
 use net_rules::{FaceKind, FullName, add_name, in_document, place_of};
 use std::alloc::Global;
@@ -102,4 +104,25 @@ pub fn try_links<'a>(
         rows.push(row)?;
     }
     Ok(rows)
+}
+
+/// The first of the numbers that is above the number of links.
+fn first_above(links: u32, numbers: &[u32]) -> Option<&u32>
+    ensures { option_copied result ≡ first_above links numbers.now }
+{
+    numbers.iter().find(|number| links < **number)
+}
+
+/// Checks whether these are numbers of the document's links.
+pub fn try_down_links(doc: &Document, down: &[u32]) -> Result<(), NetFault>
+    ensures { TriedAlone (RefusesDownLinks doc.now down.now) result }
+{
+    match first_above(doc.links.len(), down) {
+        Some(number) => Err(NetFault::Refused(Refusal {
+            file: 0,
+            number: *number,
+            kind: Kind::LinkFace,
+        })),
+        None => Ok(()),
+    }
 }

@@ -6,7 +6,6 @@ ghost use Rattle.net_rules.specs.Lists.{AreListNames, AreRouteLists, route_entri
 ghost use Rattle.net_rules.specs.Lists.{packet_entry, route_entry, list_named, route_row_at};
 ghost use Rattle.net_rules.specs.Lists.{entry_of, if_defined, packet_row, route_row};
 ghost use Rattle.row_making.specs.ListTables.{Adds, list_at, list_if, AddsRows};
-ghost use Rattle.std.specs.List.{filter_map};
 ghost use Rattle.std.specs.Option.{option_copied, option_or};
 ghost use Rattle.std.specs.Prelude.{◌≡◌, ◌≤◌, ℕ, List, Any, IfOk, OnOk, length, AllPairs};
 
@@ -58,11 +57,7 @@ pub fn list_names(alloc: Global, config: &Config) -> Result<List<Name>, Memory>
 fn is_packet_kind(kind: ListKind) -> bool
     ensures { result ≡ is_packet_kind kind }
 {
-    match kind {
-        ListKind::Extended => true,
-        ListKind::Standard => true,
-        ListKind::Prefix => false,
-    }
+    matches!(kind, ListKind::Extended | ListKind::Standard)
 }
 
 fn is_extended_kind(kind: ListKind) -> bool
@@ -113,15 +108,11 @@ fn by_name<'a>(alloc: Global, config: &'a Config, packet: bool) -> Result<ByName
 fn defined(found: Option<&ListText>) -> Option<&ListText>
     ensures { option_copied result ≡ if_defined (option_copied found.entry) }
 {
-    match found {
-        Some(list) => {
-            if list.entries.is_empty() {
-                return None;
-            }
-            Some(list)
-        }
-        None => None,
+    let list = found?;
+    if list.entries.is_empty() {
+        return None;
     }
+    Some(list)
 }
 
 /// The entry that the words of a line give.
@@ -143,29 +134,16 @@ fn packet_entry(command: &Command) -> Option<PacketEntry>
     ensures { result ≡ packet_entry command.now }
 {
     match command {
-        Command::Entry(_, text) => Some(entry_of(text)),
-        Command::ListLine(_, text) => Some(entry_of(text)),
+        Command::Entry(_, text) | Command::ListLine(_, text) => Some(entry_of(text)),
         _ => None,
     }
-}
-
-/// The entries that the lines give.
-fn packet_entries_of(alloc: Global, lines: &[Given<Command>]) -> Result<Vec<PacketEntry>, Memory>
-    ensures { IfOk result (λ entries.
-        entries.items ≡ filter_map (λ g. packet_entry g.value) lines.now) }
-{
-    Ok(
-        lines
-            .iter()
-            .filter_map(|g| packet_entry(&g.value))
-            .collect(alloc)?,
-    )
 }
 
 fn packet_entries(alloc: Global, list: &ListText) -> Result<List<PacketEntry>, Memory>
     ensures { IfOk result (λ entries. entries ≡ packet_entries list.now) }
 {
-    List::of(packet_entries_of(alloc, list.entries.slice())?)
+    let lines = list.entries.slice().iter();
+    List::of(lines.filter_map(|g| packet_entry(&g.value)).collect(alloc)?)
 }
 
 fn route_entry(command: &Command) -> Option<RouteEntry>
@@ -182,23 +160,11 @@ fn route_entry(command: &Command) -> Option<RouteEntry>
     }
 }
 
-/// The entries that the lines give.
-fn route_entries_of(alloc: Global, lines: &[Given<Command>]) -> Result<Vec<RouteEntry>, Memory>
-    ensures { IfOk result (λ entries.
-        entries.items ≡ filter_map (λ g. route_entry g.value) lines.now) }
-{
-    Ok(
-        lines
-            .iter()
-            .filter_map(|g| route_entry(&g.value))
-            .collect(alloc)?,
-    )
-}
-
 fn route_entries(alloc: Global, list: &ListText) -> Result<List<RouteEntry>, Memory>
     ensures { IfOk result (λ entries. entries ≡ route_entries list.now) }
 {
-    List::of(route_entries_of(alloc, list.entries.slice())?)
+    let lines = list.entries.slice().iter();
+    List::of(lines.filter_map(|g| route_entry(&g.value)).collect(alloc)?)
 }
 
 fn packet_row(

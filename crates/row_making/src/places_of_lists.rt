@@ -2,7 +2,7 @@
 ghost use Rattle.arc_base.specs.Lists.{AreDistinct};
 ghost use Rattle.net_rules.specs.Lists.{IsPlaceAmong, keys_at, packet_list_key, route_list_key};
 ghost use Rattle.std.specs.Option.{option_copied};
-ghost use Rattle.std.specs.Prelude.{◌≡◌, ◌<◌, ◌^◌, map, option_map, length, IfOk, Some};
+ghost use Rattle.std.specs.Prelude.{◌≡◌, ◌<◌, ◌^◌, map, option_map, length, IfOk};
 
 use arc_base::{List, ListId, Memory, Name};
 use indexmap::IndexSet;
@@ -45,17 +45,6 @@ pub fn index_route_lists<'a>(
     Ok(index)
 }
 
-/// Where the list of this router and name is.
-fn place_of_key(index: &IndexSet<ListKey<'_>>, router: u32, name: &[u8]) -> Option<ListId>
-    requires { length index.now.keys < 2 ^ 32 }
-    ensures { IsPlaceAmong (keys_at index.now.keys) router (Some name.now) result }
-{
-    match index.get_index_of(&(router, name)) {
-        Some(place) => Some(ListId(place as u32)),
-        None => None,
-    }
-}
-
 /// Where the list is that the router binds under a name: nowhere, if it binds none or it is not
 /// defined.
 pub fn place_of_list(
@@ -66,18 +55,14 @@ pub fn place_of_list(
     requires { length index.now.keys < 2 ^ 32 }
     ensures { IsPlaceAmong (keys_at index.now.keys) router (option_copied bound.entry) result }
 {
-    match bound {
-        Some(name) => place_of_key(index, router, name.bytes()),
-        None => None,
-    }
+    let name = bound?;
+    let place = index.get_index_of(&(router, name.bytes()))?;
+    Some(ListId(place as u32))
 }
 
 /// The name that a line binds.
 pub fn bound_name(given: &Option<Given<Name>>) -> Option<&Name>
     ensures { option_copied result ≡ option_map (λ g. g.value) given.now }
 {
-    match given {
-        Some(given) => Some(&given.value),
-        None => None,
-    }
+    Some(&given.as_ref()?.value)
 }

@@ -1,21 +1,19 @@
 //! What the process of a file says, gathered once for all interfaces of the file: no look-up goes
 //! through its lines again.
 ghost use Rattle.arc_base.specs.declared.prefix.Prefix.{Prefix};
-ghost use Rattle.std.specs.Option.{option_copied, option_or};
-ghost use Rattle.std.specs.Prelude.{◌≡◌, ◌↔◌, ◌⊎◌, ℕ, List, Some, Any, IfOk, IsTrue, option_map};
 ghost use Rattle.ios_words.specs.declared.commands.Command.TheVariants as commands;
 ghost use Rattle.net_rules.specs.Prefixes.{HasPrefix};
-ghost use Rattle.net_rules.specs.Settings.{last_said, says_passive};
-ghost use Rattle.row_making.specs.Indexes.{told_prefix, covered_prefix, network_prefix, by_face};
-ghost use Rattle.row_making.specs.Indexes.{passive_setting, said_of, IsIndex};
+ghost use Rattle.net_rules.specs.Settings.{last_said, says_passive, says_reference, reference_of};
+ghost use Rattle.row_making.specs.Indexes.{network_prefix, by_face, said_of, IsIndex};
+ghost use Rattle.std.specs.Option.{option_copied, option_or};
+ghost use Rattle.std.specs.Prelude.{◌≡◌, ◌↔◌, ℕ, List, Some, Any, IfOk, IsTrue};
 
-use crate::commands::reference;
 use arc_base::{Memory, Name, Prefix};
 use indexmap::{IndexMap, IndexSet};
 use ios_config::{Config, Given};
 use ios_words::Command;
 use net_model::Protocol;
-use net_rules::{Prefixes, add_prefix, has_prefix, has_prefix_of, lines_of};
+use net_rules::{DEFAULT_REFERENCE, Prefixes, add_prefix, has_prefix, has_prefix_of, lines_of};
 use std::alloc::Global;
 
 /// What the lines of a process say of passive interfaces.
@@ -40,46 +38,19 @@ pub struct ProcessIndex<'a> {
     pub passive: PassiveIndex<'a>,
 }
 
-/// The prefix of a network statement of BGP.
-fn told_prefix(command: &Command) -> Option<&Prefix>
-    ensures { option_copied result ≡ told_prefix command.now }
-{
-    match command {
-        Command::Tells(p) => Some(p),
-        _ => None,
-    }
-}
-
-/// The prefix of a network statement of OSPF.
-fn covered_prefix(command: &Command) -> Option<&Prefix>
-    ensures { option_copied result ≡ covered_prefix command.now }
-{
-    match command {
-        Command::Covers(p, _) => Some(p),
-        _ => None,
-    }
-}
-
+/// The prefix of a network statement of the protocol.
 fn network_prefix(protocol: Protocol, command: &Command) -> Option<&Prefix>
     ensures { option_copied result ≡ network_prefix protocol command.now }
 {
     match protocol {
-        Protocol::Ospf => covered_prefix(command),
-        Protocol::Bgp => told_prefix(command),
-    }
-}
-
-/// Adds the prefix, if there is one.
-fn add_found(prefixes: &mut Prefixes, found: Option<&Prefix>) -> Result<(), Memory>
-    ensures { IfOk result (λ done. (p : Prefix) → HasPrefix prefixes.new.keys p ↔
-        (HasPrefix prefixes.old.keys p ⊎ (option_copied found.entry ≡ Some p))) }
-{
-    match found {
-        Some(p) => {
-            add_prefix(prefixes, p)?;
-            Ok(())
-        }
-        None => Ok(()),
+        Protocol::Ospf => match command {
+            Command::Covers(p, _) => Some(p),
+            _ => None,
+        },
+        Protocol::Bgp => match command {
+            Command::Tells(p) => Some(p),
+            _ => None,
+        },
     }
 }
 
@@ -90,19 +61,11 @@ fn prefixes(alloc: Global, protocol: Protocol, lines: &[Given<Command>]) -> Resu
 {
     let mut prefixes = IndexSet::new(alloc);
     for line in lines {
-        add_found(&mut prefixes, network_prefix(protocol, &line.value))?;
+        if let Some(p) = network_prefix(protocol, &line.value) {
+            add_prefix(&mut prefixes, p)?;
+        }
     }
     Ok(prefixes)
-}
-
-/// Whether the command makes interfaces passive, and which one, or else all.
-fn passive_setting(command: &Command) -> Option<(bool, Option<&Name>)>
-    ensures { option_map (λ s. (s.0, option_copied s.1)) result ≡ passive_setting command.now }
-{
-    match command {
-        Command::Passive(on, face) => Some((*on, face.as_ref())),
-        _ => None,
-    }
 }
 
 /// Notes whether the interface of this name, or else each, is passive.
@@ -132,12 +95,9 @@ fn add_passive<'a>(passive: &mut PassiveIndex<'a>, command: &'a Command) -> Resu
     ensures { IfOk result (λ done. (name : List ℕ) → said_of passive.new name
         ≡ option_or (says_passive name command.now) (said_of passive.old name)) }
 {
-    match passive_setting(command) {
-        Some((on, face)) => {
-            note_passive(passive, on, face)?;
-            Ok(())
-        }
-        None => Ok(()),
+    match command {
+        Command::Passive(on, face) => note_passive(passive, *on, face.as_ref()),
+        _ => Ok(()),
     }
 }
 
@@ -155,6 +115,26 @@ fn passive<'a>(alloc: Global, lines: &'a [Given<Command>]) -> Result<PassiveInde
     Ok(passive)
 }
 
+fn says_reference(command: &Command) -> Option<u32>
+    ensures { result ≡ says_reference command.now }
+{
+    match command {
+        Command::Reference(m) => Some(*m),
+        _ => None,
+    }
+}
+
+/// The reference bandwidth of the process, in kbit/s.
+pub fn reference(lines: &[Given<Command>]) -> u64
+    ensures { result ≡ reference_of lines.now }
+{
+    let mut last = None;
+    for line in lines {
+        last = says_reference(&line.value).or(last);
+    }
+    u64::from(last.unwrap_or(DEFAULT_REFERENCE)) * 1000
+}
+
 /// The index of the file's process.
 pub fn index_process(alloc: Global, config: &Config) -> Result<ProcessIndex<'_>, Memory>
     ensures config { IfOk result (λ index. index.config.now ≡ config.now) }
@@ -168,18 +148,6 @@ pub fn index_process(alloc: Global, config: &Config) -> Result<ProcessIndex<'_>,
         covered: prefixes(alloc, Protocol::Ospf, lines)?,
         passive: passive(alloc, lines)?,
     })
-}
-
-impl PassiveIndex<'_> {
-    /// What the last line about the interface of this name, or about all, says.
-    fn get(&self, name: &[u8]) -> Option<bool>
-        ensures { result ≡ said_of self.now name.now }
-    {
-        match self.named.get(&name) {
-            Some(on) => Some(*on),
-            None => self.all,
-        }
-    }
 }
 
 impl ProcessIndex<'_> {
@@ -203,11 +171,12 @@ impl ProcessIndex<'_> {
         has_prefix_of(&self.covered, address)
     }
 
+    /// What the last line about the interface of this name, or about all, says.
     fn last_passive(&self, name: &[u8]) -> Option<bool>
         requires { IsIndex self.now }
         ensures { result ≡ last_said (says_passive name.now) (lines_of self.now.config.now) }
     {
-        self.passive.get(name)
+        self.passive.named.get(&name).copied().or(self.passive.all)
     }
 
     /// Whether the interface of this name is passive.

@@ -1,27 +1,89 @@
-//! The BGP sessions at the ends of links.
+//! The BGP sessions at the ends of links, by what the lines of a process say of their neighbours.
+//! The last line about a setting decides.
+ghost use Rattle.arc_base.specs.Lists.{AreDistinct};
 ghost use Rattle.net_model.specs.declared.policies.Document.{Document};
 ghost use Rattle.net_model.specs.declared.rows.SessionRow.{SessionRow};
-ghost use Rattle.std.specs.Prelude.{◌≡◌, ◌≤◌, ◌<◌, ◌^◌, ◌↔◌, Some, None, IfOk, OnOk, IsTrue};
-ghost use Rattle.std.specs.Prelude.{IsSomeAnd, MatchOption, length, map, slice_get};
-ghost use Rattle.net_model.specs.declared.rows.Protocol.TheVariants as protocols;
-ghost use Rattle.arc_base.specs.Lists.{AreDistinct};
 ghost use Rattle.net_rules.specs.Linking.{RefusesLinkFace};
 ghost use Rattle.net_rules.specs.Lists.{keys_at, route_list_key};
-ghost use Rattle.net_rules.specs.Neighbors.{remote_of};
+ghost use Rattle.net_rules.specs.Neighbors.{remote_of, says_remote, says_down, says_filter};
+ghost use Rattle.net_rules.specs.Neighbors.{is_down, filter_of};
 ghost use Rattle.net_rules.specs.Reasons.{NoRefusal};
 ghost use Rattle.net_rules.specs.Rows.{AreBaseRows, IsConfigured, AreSessions};
 ghost use Rattle.net_rules.specs.Settings.{lines_of};
 ghost use Rattle.row_making.specs.Sessions.{IsSessionOver, AddsOne, AddsSessions};
+ghost use Rattle.std.specs.Option.{option_copied};
+ghost use Rattle.std.specs.Prelude.{◌≡◌, ◌≤◌, ◌<◌, ◌^◌, Some, None, IfOk, OnOk};
+ghost use Rattle.std.specs.Prelude.{MatchOption, length, map};
 
-use crate::commands::{filter_of, is_down, remote_of};
 use crate::places_of_lists::{ListKey, place_of_list};
 use arc_base::limits::ROUTER_LIMIT;
-use arc_base::{Face, List, Memory};
+use arc_base::{Face, List, Memory, Name};
 use indexmap::IndexSet;
-use ios_config::Config;
+use ios_config::{Config, Given};
+use ios_words::Command;
 use net_model::{Network, Protocol, SessionRow};
 use net_rules::{address_at, lines_of};
 use std::alloc::Global;
+
+fn says_remote(command: &Command, peer: u32) -> Option<u32>
+    ensures { result ≡ says_remote peer command.now }
+{
+    match command {
+        Command::RemoteAs(other, asn) => { if *other == peer { Some(*asn) } else { None } }
+        _ => None,
+    }
+}
+
+/// The AS of the neighbour.
+fn remote_of(lines: &[Given<Command>], peer: u32) -> Option<u32>
+    ensures { result ≡ remote_of lines.now peer }
+{
+    let mut last = None;
+    for line in lines {
+        last = says_remote(&line.value, peer).or(last);
+    }
+    last
+}
+
+fn says_down(command: &Command, peer: u32) -> Option<bool>
+    ensures { result ≡ says_down peer command.now }
+{
+    match command {
+        Command::NeighborDown(other, down) => { if *other == peer { Some(*down) } else { None } }
+        _ => None,
+    }
+}
+
+/// Whether the neighbour is shut down.
+fn is_down(lines: &[Given<Command>], peer: u32) -> bool
+    ensures { result ≡ is_down lines.now peer }
+{
+    let mut last = None;
+    for line in lines {
+        last = says_down(&line.value, peer).or(last);
+    }
+    last.unwrap_or(false)
+}
+
+fn says_filter(command: &Command, peer: u32) -> Option<&Name>
+    ensures { option_copied result ≡ says_filter peer command.now }
+{
+    match command {
+        Command::NeighborList(other, list) => { if *other == peer { Some(list) } else { None } }
+        _ => None,
+    }
+}
+
+/// The name of the route list that is bound inbound at the neighbour.
+fn filter_of(lines: &[Given<Command>], peer: u32) -> Option<&Name>
+    ensures { option_copied result ≡ filter_of lines.now peer }
+{
+    let mut last = None;
+    for line in lines {
+        last = says_filter(&line.value, peer).or(last);
+    }
+    last
+}
 
 /// The session of an interface of the router at this place, if its file configures a neighbour at
 /// this address.
@@ -50,16 +112,6 @@ fn session(
     })
 }
 
-fn is_of_router(net: &Network, face: Face, router: u32) -> bool
-    ensures { IsTrue result ↔
-        IsSomeAnd (slice_get net.now.faces face.0) (λ row. row.router.0 ≡ router) }
-{
-    match net.faces.get(face.0) {
-        Some(row) => row.router.0 == router,
-        None => false,
-    }
-}
-
 /// The session that the router has over a link which leads from the one interface to the other, if
 /// it has one.
 fn session_over(
@@ -76,7 +128,7 @@ fn session_over(
         ¬ IsSessionOver net.now.faces (keys_at lists.now.keys) router config.now near far session)
         (IsSessionOver net.now.faces (keys_at lists.now.keys) router config.now near far) }
 {
-    if !is_of_router(net, near, router) {
+    if net.faces.get(near.0)?.router.0 != router {
         return None;
     }
     let peer = address_at(net, far)?;
@@ -98,13 +150,10 @@ fn add_session(
         (AddsOne (IsSessionOver net.now.faces (keys_at lists.now.keys) router config.now near far)
         sessions.old.items sessions.new.items) }
 {
-    match session_over(net, lists, router, config, near, far) {
-        Some(session) => {
-            sessions.push(session)?;
-            Ok(())
-        }
-        None => Ok(()),
+    if let Some(session) = session_over(net, lists, router, config, near, far) {
+        sessions.push(session)?;
     }
+    Ok(())
 }
 
 /// Adds the sessions of a router, in the order of their links.
@@ -126,30 +175,6 @@ fn add_sessions(
     Ok(())
 }
 
-/// The sessions of all routers under BGP.
-fn bgp_rows(
-    alloc: Global,
-    net: &Network,
-    configs: &List<Config>,
-    lists: &IndexSet<ListKey<'_>>,
-) -> Result<List<SessionRow>, Memory>
-    requires few { length lists.now.keys < 2 ^ 32 }
-    requires routers { length configs.now ≤ ROUTER_LIMIT }
-    requires lists { keys_at lists.now.keys ≡ map route_list_key net.now.route_lists }
-    requires distinct { AreDistinct (map route_list_key net.now.route_lists) }
-    ensures { IfOk result (λ sessions. (doc : Document) →
-        NoRefusal (RefusesLinkFace doc configs.now) → AreBaseRows doc configs.now net.now →
-        AreSessions protocols.Bgp configs.now net.now.links
-        (map route_list_key net.now.route_lists) sessions) }
-{
-    let mut sessions = Vec::new(alloc);
-    for (router, config) in configs.slice().iter().enumerate() {
-        add_sessions(&mut sessions, net, lists, router as u32, config)?;
-    }
-    let rows = List::of(sessions)?;
-    Ok(rows)
-}
-
 /// The sessions of all routers, over the interfaces and links of the network.
 pub fn session_rows(
     alloc: Global,
@@ -167,10 +192,13 @@ pub fn session_rows(
         (map route_list_key net.now.route_lists) sessions) }
 {
     match net.protocol {
-        Protocol::Ospf => Ok(List::make(alloc)),
-        Protocol::Bgp => {
-            let rows = bgp_rows(alloc, net, configs, lists)?;
-            Ok(rows)
-        }
+        Protocol::Ospf => return Ok(List::make(alloc)),
+        Protocol::Bgp => {}
     }
+    let mut sessions = Vec::new(alloc);
+    for (router, config) in configs.slice().iter().enumerate() {
+        add_sessions(&mut sessions, net, lists, router as u32, config)?;
+    }
+    let rows = List::of(sessions)?;
+    Ok(rows)
 }

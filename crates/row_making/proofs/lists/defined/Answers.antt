@@ -6,11 +6,11 @@ use Rattle.row_making.proofs.ListsTables.{defined_none, defined_some}
 use Rattle.row_making.proofs.lists.defined.Goals as goal
 
 pub returns-then-is_empty : goal.returns-then-is_empty
-returns-then-is_empty c = sym (defined_none (option_copied c.args.found) c.in-Some.list.now (ap option_copied c.in-Some.is) (c.is_empty.ensures.0 c.if-is_empty.true))
+returns-then-is_empty c = sym (defined_none (option_copied c.args.found) c.in_ok-list.list.now (ap option_copied c.in_ok-list.was) (c.is_empty.ensures.0 c.if-is_empty.true))
 
-pub returns-else-is_empty : goal.returns-else-is_empty
-returns-else-is_empty c =
-    sym (defined_some (option_copied c.args.found) c.in-Some.list.now (ap option_copied c.in-Some.is) (λ none. false≢true (sym c.if-is_empty.false ∙ c.is_empty.ensures.1 none)))
+pub returns : goal.returns
+returns c =
+    sym (defined_some (option_copied c.args.found) c.in_ok-list.list.now (ap option_copied c.in_ok-list.was) (λ none. false≢true (sym c.if-is_empty.false ∙ c.is_empty.ensures.1 none)))
 
-pub returns-in-None : goal.returns-in-None
-returns-in-None c = sym (ap if_defined (ap option_copied c.in-None.is))
+pub returns-in_err-list : goal.returns-in_err-list
+returns-in_err-list c = ap option_copied c.from_residual.ensures ∙ sym (ap if_defined (ap option_copied c.in_err-list.was))

@@ -2,14 +2,15 @@ use Rattle.std.proofs.Common.{◌≡◌, ◌≤◌, ℕ, List, Some, length, ap,
 use Rattle.std.specs.Prelude.{slice_get, map}
 use Rattle.std.proofs.lemmas.Option.{slice_get-get_or}
 use Rattle.ios_config.specs.declared.settings.Config.{Config}
+use Rattle.net_model.specs.declared.rows.Protocol.{Protocol}
 use Rattle.net_model.specs.declared.rows.SessionRow.{SessionRow}
 use Rattle.arc_base.specs.Lists.{AreDistinct}
 use Rattle.net_rules.specs.Lists.{keys_at, route_list_key}
 use Rattle.net_rules.specs.Ordered.{AreInOrder}
-use Rattle.net_rules.specs.Rows.{IsSession, IsSessionBefore}
+use Rattle.net_rules.specs.Rows.{IsSession, IsSessionBefore, AreSessions}
 use Rattle.row_making.specs.Sessions.{AreFilesOf, AreSessionsTo}
 use Rattle.row_making.proofs.SessionSteps.{no_sessions, all_sessions}
-use Rattle.row_making.proofs.sessions.bgp_rows.Goals as goal
+use Rattle.row_making.proofs.sessions.session_rows.Goals as goal
 
 pub loop-router-init : goal.loop-router-init
 loop-router-init c = λ files.
@@ -36,8 +37,9 @@ returns c = λ doc free base.
     } in
     let long : length c.args.configs.now ≤ c.loop-router.router = omega (arith, c.loop-router-test.false, ap length c.slice-config-items.ensures.items) in
     let all = all_sessions c.args.configs.now c.args.net.now.links keys c.loop-router.router c.loop-router.sessions.items long (c.loop-router.invariant files) in
-    subst (λ (rows : List SessionRow). AreInOrder (IsSessionBefore c.args.configs.now c.args.net.now.links (map route_list_key c.args.net.now.route_lists))
+    subst (λ (protocol : Protocol). AreSessions protocol c.args.configs.now c.args.net.now.links (map route_list_key c.args.net.now.route_lists) c.in_ok-rows.rows) (sym c.in-Bgp.is)
+    (subst (λ (rows : List SessionRow). AreInOrder (IsSessionBefore c.args.configs.now c.args.net.now.links (map route_list_key c.args.net.now.route_lists))
     (IsSession c.args.configs.now c.args.net.now.links (map route_list_key c.args.net.now.route_lists)) rows)
     (sym c.in_ok-rows.ensures.ok)
     (subst (λ (l : List (ℕ × List ℕ)). AreInOrder (IsSessionBefore c.args.configs.now c.args.net.now.links l) (IsSession c.args.configs.now c.args.net.now.links l) c.loop-router.sessions.items)
-    c.requires.lists all)
+    c.requires.lists all))

@@ -1,7 +1,7 @@
 use Rattle.std.proofs.Common.{◌∙◌}
 use Rattle.net_rules.specs.Settings.{says_reference}
 use Rattle.net_rules.proofs.Lasts.{last_more}
-use Rattle.row_making.proofs.commands.last_reference.Goals as goal
+use Rattle.row_making.proofs.process_index.reference.Goals as goal
 
 pub loop-line-preserved : goal.loop-line-preserved
 loop-line-preserved c =

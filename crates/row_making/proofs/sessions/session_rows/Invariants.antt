@@ -1,6 +1,6 @@
 use Rattle.net_rules.specs.Lists.{keys_at}
 use Rattle.row_making.specs.Sessions.{AreFilesOf, AreSessionsTo}
-use Rattle.row_making.proofs.sessions.bgp_rows.Given as goal
+use Rattle.row_making.proofs.sessions.session_rows.Given as goal
 
 abbrev pub invariant-loop-router : goal.invariant-loop-router
 invariant-loop-router l =

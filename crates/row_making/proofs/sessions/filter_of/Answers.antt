@@ -3,7 +3,7 @@ use Rattle.std.specs.Prelude.{option_map}
 use denote.Ref.{Bor}
 use Rattle.net_rules.specs.Neighbors.{says_filter}
 use Rattle.net_rules.proofs.Lasts.{last_more, map_or}
-use Rattle.row_making.proofs.commands.filter_of.Goals as goal
+use Rattle.row_making.proofs.sessions.filter_of.Goals as goal
 
 pub loop-line-preserved : goal.loop-line-preserved
 loop-line-preserved c =
