@@ -9,9 +9,9 @@ ghost use Rattle.std.specs.Prelude.{◌≡◌, ◌==◌, ◌<◌, ◌&&◌, not,
 ghost use Rattle.std.specs.Prelude.{map, flat_map, OnOk, IfOk, ◌^◌};
 
 use crate::condition::Condition;
-use crate::draft::Draft;
 use crate::index::{picked, row_variables, variables_of};
 use crate::network::Question;
+use crate::part::no;
 use crate::pick::Pick;
 use crate::row::Index;
 use crate::table::Table;
@@ -33,135 +33,116 @@ pub(crate) struct Family<'a> {
 }
 
 /// If the variable is true, the condition holds.
-fn requires_condition(
-    alloc: Global,
-    out: &mut Writer,
-    variable: u64,
-    condition: Condition,
-) -> Result<(), Memory>
+fn requires_condition(out: &mut Writer, variable: u64, condition: Condition) -> Result<(), Memory>
     requires { variable < 2 ^ 62 }
     ensures { OnOk result (Adds out.old out.new ((no variable ∷ affirmed condition ∷ []) ∷ [])) }
 {
-    let mut draft = Draft::make(alloc);
-    draft.no(variable)?;
-    draft.affirm(condition)?;
-    out.put(alloc, &draft)
+    out.put(&[no(variable), condition.affirmed()])
 }
 
 /// If the variable is true, each of the conditions holds.
-fn requires_all(
-    alloc: Global,
-    out: &mut Writer,
-    variable: u64,
-    conditions: &[Condition],
-) -> Result<(), Memory>
+fn requires_all(out: &mut Writer, variable: u64, conditions: &[Condition]) -> Result<(), Memory>
     requires { variable < 2 ^ 62 }
     ensures { OnOk result (Adds out.old out.new
         (map (λ condition. no variable ∷ affirmed condition ∷ []) conditions.now)) }
 {
     for condition in conditions {
-        requires_condition(alloc, out, variable, *condition)?;
+        requires_condition(out, variable, *condition)?;
     }
     Ok(())
 }
 
 /// If the variable is true, the arc at the place is routed.
-fn routed_at(
-    alloc: Global,
-    out: &mut Writer,
-    q: &Question,
-    variable: u64,
-    place: u32,
-) -> Result<(), Memory>
+fn routed_at(out: &mut Writer, q: &Question, variable: u64, place: u32) -> Result<(), Memory>
     requires small { variable < 2 ^ 62 }
     ensures { OnOk result (Adds out.old out.new
         (map (λ condition. no variable ∷ affirmed condition ∷ []) (arc_at q.now place).routing)) }
 {
     match q.arcs.get(place) {
-        Some(arc) => requires_all(alloc, out, variable, arc.routing.slice()),
+        Some(arc) => requires_all(out, variable, arc.routing.slice()),
         None => Ok(()),
     }
 }
 
 impl Family<'_> {
     /// The used arcs are routed, and form a path from the source to the target.
-    pub(crate) fn path(&self, alloc: Global, out: &mut Writer) -> Result<(), Memory>
+    pub(crate) fn path(&self, out: &mut Writer) -> Result<(), Memory>
         requires { HasIndex self.now }
         ensures { OnOk result (Adds out.old out.new
             (family_parts self.now.q.now self.now.nodes (used_by self.now))) }
     {
-        self.routed(alloc, out)?;
-        self.ends(alloc, out)?;
-        self.none_into_source(alloc, out)?;
-        self.none_out_of_target(alloc, out)?;
-        self.all_conserve(alloc, out)?;
-        self.all_at_most_one(alloc, out)?;
+        self.routed(out)?;
+        self.ends(out)?;
+        self.none_into_source(out)?;
+        self.none_out_of_target(out)?;
+        self.all_conserve(out)?;
+        self.all_at_most_one(out)?;
         Ok(())
     }
 
     /// Each used arc is routed.
-    fn routed(&self, alloc: Global, out: &mut Writer) -> Result<(), Memory>
+    fn routed(&self, out: &mut Writer) -> Result<(), Memory>
         ensures { OnOk result
             (Adds out.old out.new (routed_parts self.now.q.now (used_by self.now))) }
     {
         for place in 0..self.q.arcs.len() {
-            routed_at(alloc, out, self.q, self.used.at(self.number, place), place)?;
+            routed_at(out, self.q, self.used.at(self.number, place), place)?;
         }
         Ok(())
     }
 
     /// Some used arc leaves the source, and some enters the target.
-    fn ends(&self, alloc: Global, out: &mut Writer) -> Result<(), Memory>
+    fn ends(&self, out: &mut Writer) -> Result<(), Memory>
         ensures { OnOk result (Adds out.old out.new
             (map (λ place. yes (used_by self.now place))
             (out_of self.now.q.now self.now.q.now.source) ∷
             map (λ place. yes (used_by self.now place))
             (into self.now.q.now self.now.q.now.target) ∷ [])) }
     {
-        let outs = self.searched(alloc, Pick::OutOf, self.q.source)?;
-        some_of(alloc, out, outs.slice())?;
-        let ins = self.searched(alloc, Pick::Into, self.q.target)?;
-        some_of(alloc, out, ins.slice())?;
+        let outs = self.searched(out.alloc, Pick::OutOf, self.q.source)?;
+        some_of(out, &[], outs.slice())?;
+        let ins = self.searched(out.alloc, Pick::Into, self.q.target)?;
+        some_of(out, &[], ins.slice())?;
         Ok(())
     }
 
     /// No used arc enters the source.
-    fn none_into_source(&self, alloc: Global, out: &mut Writer) -> Result<(), Memory>
+    fn none_into_source(&self, out: &mut Writer) -> Result<(), Memory>
         ensures { OnOk result (Adds out.old out.new
             (map (λ place. no (used_by self.now place) ∷ [])
             (into self.now.q.now self.now.q.now.source))) }
     {
-        let ins = self.searched(alloc, Pick::Into, self.q.source)?;
-        none_of(alloc, out, ins.slice())?;
+        let ins = self.searched(out.alloc, Pick::Into, self.q.source)?;
+        none_of(out, ins.slice())?;
         Ok(())
     }
 
     /// No used arc leaves the target.
-    fn none_out_of_target(&self, alloc: Global, out: &mut Writer) -> Result<(), Memory>
+    fn none_out_of_target(&self, out: &mut Writer) -> Result<(), Memory>
         ensures { OnOk result (Adds out.old out.new
             (map (λ place. no (used_by self.now place) ∷ [])
             (out_of self.now.q.now self.now.q.now.target))) }
     {
-        let outs = self.searched(alloc, Pick::OutOf, self.q.target)?;
-        none_of(alloc, out, outs.slice())?;
+        let outs = self.searched(out.alloc, Pick::OutOf, self.q.target)?;
+        none_of(out, outs.slice())?;
         Ok(())
     }
 
     /// Flow conservation at each inner node.
-    fn all_conserve(&self, alloc: Global, out: &mut Writer) -> Result<(), Memory>
+    fn all_conserve(&self, out: &mut Writer) -> Result<(), Memory>
         requires { HasIndex self.now }
         ensures { OnOk result (Adds out.old out.new
             (flat_map (node_parts self.now.q.now (used_by self.now))
             (inner_nodes self.now.q.now self.now.nodes))) }
     {
         for node in 0..self.nodes {
-            self.conserves_between(alloc, out, node)?;
+            self.conserves_between(out, node)?;
         }
         Ok(())
     }
 
     /// Flow conservation at the node; nothing at source and target.
-    fn conserves_between(&self, alloc: Global, out: &mut Writer, node: u32) -> Result<(), Memory>
+    fn conserves_between(&self, out: &mut Writer, node: u32) -> Result<(), Memory>
         requires out_of { row_at self.now.index.now.out_of node ≡ out_of self.now.q.now node }
         requires into { row_at self.now.index.now.into node ≡ into self.now.q.now node }
         ensures { OnOk result (Adds out.old out.new
@@ -171,46 +152,46 @@ impl Family<'_> {
         if node == self.q.source || node == self.q.target {
             return Ok(());
         }
-        self.conserves(alloc, out, node)
+        self.conserves(out, node)
     }
 
     /// Flow conservation at an inner node: a used arc enters it exactly if a used arc leaves it.
-    fn conserves(&self, alloc: Global, out: &mut Writer, node: u32) -> Result<(), Memory>
+    fn conserves(&self, out: &mut Writer, node: u32) -> Result<(), Memory>
         requires out_of { row_at self.now.index.now.out_of node ≡ out_of self.now.q.now node }
         requires into { row_at self.now.index.now.into node ≡ into self.now.q.now node }
         ensures { OnOk result
             (Adds out.old out.new (node_parts self.now.q.now (used_by self.now) node)) }
     {
-        let ins = row_variables(alloc, &self.index.into, node, self.used, self.number)?;
-        let outs = row_variables(alloc, &self.index.out_of, node, self.used, self.number)?;
-        each_implies(alloc, out, ins.slice(), outs.slice())?;
-        each_implies(alloc, out, outs.slice(), ins.slice())?;
+        let ins = row_variables(out.alloc, &self.index.into, node, self.used, self.number)?;
+        let outs = row_variables(out.alloc, &self.index.out_of, node, self.used, self.number)?;
+        each_implies(out, ins.slice(), outs.slice())?;
+        each_implies(out, outs.slice(), ins.slice())?;
         Ok(())
     }
 
     /// At each node at most one used arc leaves, and at most one enters.
-    fn all_at_most_one(&self, alloc: Global, out: &mut Writer) -> Result<(), Memory>
+    fn all_at_most_one(&self, out: &mut Writer) -> Result<(), Memory>
         requires { HasIndex self.now }
         ensures { OnOk result (Adds out.old out.new
             (flat_map (once_parts self.now.q.now (used_by self.now)) (upto self.now.nodes))) }
     {
         for node in 0..self.nodes {
-            self.at_most_one(alloc, out, node)?;
+            self.at_most_one(out, node)?;
         }
         Ok(())
     }
 
     /// At most one used arc leaves the node, and at most one enters it.
-    fn at_most_one(&self, alloc: Global, out: &mut Writer, node: u32) -> Result<(), Memory>
+    fn at_most_one(&self, out: &mut Writer, node: u32) -> Result<(), Memory>
         requires out_of { row_at self.now.index.now.out_of node ≡ out_of self.now.q.now node }
         requires into { row_at self.now.index.now.into node ≡ into self.now.q.now node }
         ensures { OnOk result
             (Adds out.old out.new (once_parts self.now.q.now (used_by self.now) node)) }
     {
-        let outs = row_variables(alloc, &self.index.out_of, node, self.used, self.number)?;
-        exclusions(alloc, out, outs.slice())?;
-        let ins = row_variables(alloc, &self.index.into, node, self.used, self.number)?;
-        exclusions(alloc, out, ins.slice())?;
+        let outs = row_variables(out.alloc, &self.index.out_of, node, self.used, self.number)?;
+        exclusions(out, outs.slice())?;
+        let ins = row_variables(out.alloc, &self.index.into, node, self.used, self.number)?;
+        exclusions(out, ins.slice())?;
         Ok(())
     }
 

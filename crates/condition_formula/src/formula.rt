@@ -7,9 +7,10 @@ ghost use Rattle.std.specs.Prelude.{◌≡◌, ◌<◌, ◌≤◌, ◌+◌, ◌-
 ghost use Rattle.std.specs.Prelude.{map, take, OnOk, IfOk, IfErr};
 
 use crate::counter::prices;
-use crate::draft::{literal, push};
 use crate::fault::EncodeFault;
+use crate::literals::literal;
 use crate::network::ConditionNet;
+use crate::pushing::push;
 use crate::questions::{questions, variable_count};
 use crate::table::Table;
 use crate::writer::Writer;
@@ -63,7 +64,6 @@ pub fn encode(alloc: Global, net: &ConditionNet, bound: u32) -> Result<PackedEnc
     let edits = net.weights.len();
     let mut out = Writer::make(alloc);
     let next = questions(
-        alloc,
         &mut out,
         net.questions.slice(),
         net.nodes,
@@ -74,7 +74,7 @@ pub fn encode(alloc: Global, net: &ConditionNet, bound: u32) -> Result<PackedEnc
         first: next,
         columns: bound + 1,
     };
-    prices(alloc, &mut out, net.weights.slice(), bound, above)?;
+    prices(&mut out, net.weights.slice(), bound, above)?;
     if out.literals > LITERAL_LIMIT {
         return Err(EncodeFault::Limit(LimitKind::Literals, out.literals));
     }

@@ -6,9 +6,9 @@ ghost use Rattle.condition_formula.specs.Writing.{row_at, empty_rows, with_place
 ghost use Rattle.std.specs.Prelude.{◌≡◌, ◌<◌, [], ◌∷◌, ◌++◌, if◌then◌else◌, length, map, OnOk};
 ghost use Rattle.std.specs.Prelude.{IfOk};
 
-use crate::draft::push;
 use crate::network::{ConditionArc, Question};
 use crate::pick::Pick;
+use crate::pushing::push;
 use crate::row::{Index, Row};
 use crate::table::Table;
 use arc_base::{List, Memory};

@@ -12,7 +12,6 @@ use crate::table::Table;
 use crate::writer::Writer;
 use arc_base::Memory;
 use arc_base::limits::{ARC_LIMIT, NODE_LIMIT, PRICE_LIMIT, QUESTION_LIMIT};
-use std::alloc::Global;
 
 /// The number of variables of a question.
 fn question_size(q: &Question, nodes: u32) -> u64
@@ -60,7 +59,6 @@ pub(crate) fn variable_count(net: &ConditionNet, bound: u32) -> u64
 
 /// The clauses of a question, whose variables start at `first`.
 fn question(
-    alloc: Global,
     out: &mut Writer,
     q: &Question,
     nodes: u32,
@@ -76,7 +74,7 @@ fn question(
     match q.demand {
         Demand::Blocked | Demand::Through => {
             let columns = nodes;
-            kept_off(alloc, out, q, Table { first, columns })
+            kept_off(out, q, Table { first, columns })
         }
         Demand::Reach(many) => {
             let columns = q.arcs.len();
@@ -87,7 +85,7 @@ fn question(
                 many,
                 used: Table { first, columns },
             };
-            paths.reached(alloc, out)
+            paths.reached(out)
         }
     }
 }
@@ -95,7 +93,6 @@ fn question(
 /// The clauses of all questions, whose variables start at `first`. Returns the variable after
 /// theirs.
 pub(crate) fn questions(
-    alloc: Global,
     out: &mut Writer,
     questions: &[Question],
     nodes: u32,
@@ -112,7 +109,7 @@ pub(crate) fn questions(
     let mut next = first;
     let mut rest = questions;
     while let Some((q, others)) = rest.split_first() {
-        question(alloc, out, q, nodes, links, next)?;
+        question(out, q, nodes, links, next)?;
         next += question_size(q, nodes);
         rest = others;
     }

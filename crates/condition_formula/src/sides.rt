@@ -7,12 +7,11 @@ ghost use Rattle.condition_formula.specs.Writing.{Adds};
 ghost use Rattle.std.specs.Prelude.{◌≡◌, [], ◌∷◌, if◌then◌else◌, map, OnOk};
 
 use crate::condition::{ArcLists, ClassEnds, Condition};
-use crate::draft::Draft;
 use crate::network::{ConditionArc, Demand, Question};
+use crate::part::{no, yes};
 use crate::table::Table;
 use crate::writer::Writer;
 use arc_base::Memory;
-use std::alloc::Global;
 
 /// The conditions of an arc's packet lists for a class, which always hold if the arc has none.
 pub(crate) fn lists_of(arc: &ConditionArc, class: u32) -> ArcLists
@@ -52,29 +51,19 @@ fn is_counted(demand: Demand, arc: &ConditionArc) -> bool
 }
 
 /// Packets that come to the tail of an open arc come to its head.
-fn step(
-    alloc: Global,
-    out: &mut Writer,
-    reached: Table,
-    class: u32,
-    arc: &ConditionArc,
-) -> Result<(), Memory>
+fn step(out: &mut Writer, reached: Table, class: u32, arc: &ConditionArc) -> Result<(), Memory>
     ensures { OnOk result (Adds out.old out.new
         (step_parts (cell reached.first reached.columns class) class arc.now ∷ [])) }
 {
     let lists = lists_of(arc, class);
-    let mut draft = Draft::make(alloc);
-    draft.no(reached.at(class, arc.tail))?;
-    draft.deny_all(arc.routing.slice())?;
-    draft.deny(lists.outbound)?;
-    draft.deny(lists.inbound)?;
-    draft.yes(reached.at(class, arc.head))?;
-    out.put(alloc, &draft)
+    let before = [no(reached.at(class, arc.tail))];
+    let head = yes(reached.at(class, arc.head));
+    let after = [lists.outbound.denied(), lists.inbound.denied(), head];
+    out.put_unless(&before, arc.routing.slice(), &after)
 }
 
 /// The clauses of a step over an arc that counts; none for another arc.
 fn counted_step(
-    alloc: Global,
     out: &mut Writer,
     demand: Demand,
     reached: Table,
@@ -87,91 +76,62 @@ fn counted_step(
     if !is_counted(demand, arc) {
         return Ok(());
     }
-    step(alloc, out, reached, class, arc)
+    step(out, reached, class, arc)
 }
 
 /// The clauses of a step over each arc that counts.
-fn steps(
-    alloc: Global,
-    out: &mut Writer,
-    q: &Question,
-    reached: Table,
-    class: u32,
-) -> Result<(), Memory>
+fn steps(out: &mut Writer, q: &Question, reached: Table, class: u32) -> Result<(), Memory>
     ensures { OnOk result (Adds out.old out.new
         (map (step_parts (cell reached.first reached.columns class) class) (counted_arcs q.now))) }
 {
     for arc in q.arcs.slice() {
-        counted_step(alloc, out, q.demand, reached, class, arc)?;
+        counted_step(out, q.demand, reached, class, arc)?;
     }
     Ok(())
 }
 
 /// Packets of the class that enter are at the source.
-fn enters(
-    alloc: Global,
-    out: &mut Writer,
-    q: &Question,
-    reached: Table,
-    class: u32,
-) -> Result<(), Memory>
+fn enters(out: &mut Writer, q: &Question, reached: Table, class: u32) -> Result<(), Memory>
     ensures { OnOk result (Adds out.old out.new ((denied (ends_of q.now class).enter ∷
         yes (cell reached.first reached.columns class q.now.source) ∷ []) ∷ [])) }
 {
-    let mut draft = Draft::make(alloc);
-    draft.deny(ends_of(q, class).enter)?;
-    draft.yes(reached.at(class, q.source))?;
-    out.put(alloc, &draft)
+    out.put(&[
+        ends_of(q, class).enter.denied(),
+        yes(reached.at(class, q.source)),
+    ])
 }
 
 /// Packets of the class that are at the target do not leave.
-fn leaves(
-    alloc: Global,
-    out: &mut Writer,
-    q: &Question,
-    reached: Table,
-    class: u32,
-) -> Result<(), Memory>
+fn leaves(out: &mut Writer, q: &Question, reached: Table, class: u32) -> Result<(), Memory>
     ensures { OnOk result
         (Adds out.old out.new ((no (cell reached.first reached.columns class q.now.target) ∷
         denied (ends_of q.now class).leave ∷ []) ∷ [])) }
 {
-    let mut draft = Draft::make(alloc);
-    draft.no(reached.at(class, q.target))?;
-    draft.deny(ends_of(q, class).leave)?;
-    out.put(alloc, &draft)
+    out.put(&[
+        no(reached.at(class, q.target)),
+        ends_of(q, class).leave.denied(),
+    ])
 }
 
 /// The clauses of a class: its packets that enter are at the source, go on over open arcs, and do
 /// not leave at the target.
-fn side(
-    alloc: Global,
-    out: &mut Writer,
-    q: &Question,
-    reached: Table,
-    class: u32,
-) -> Result<(), Memory>
+fn side(out: &mut Writer, q: &Question, reached: Table, class: u32) -> Result<(), Memory>
     ensures { OnOk result
         (Adds out.old out.new (side_parts q.now (cell reached.first reached.columns class) class)) }
 {
-    enters(alloc, out, q, reached, class)?;
-    steps(alloc, out, q, reached, class)?;
-    leaves(alloc, out, q, reached, class)?;
+    enters(out, q, reached, class)?;
+    steps(out, q, reached, class)?;
+    leaves(out, q, reached, class)?;
     Ok(())
 }
 
 /// The clauses of blocked and through, for each class.
-pub(crate) fn kept_off(
-    alloc: Global,
-    out: &mut Writer,
-    q: &Question,
-    reached: Table,
-) -> Result<(), Memory>
+pub(crate) fn kept_off(out: &mut Writer, q: &Question, reached: Table) -> Result<(), Memory>
     ensures { OnOk result
         (Adds out.old out.new (kept_off_parts q.now (cell reached.first reached.columns))) }
 {
     for class in 0..q.classes.len() {
-        side(alloc, out, q, reached, class)?;
+        side(out, q, reached, class)?;
     }
     Ok(())
 }

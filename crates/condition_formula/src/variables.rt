@@ -1,106 +1,96 @@
 //! Clauses over lists of variables.
 ghost use Rattle.condition_formula.specs.Clauses.{yes, no};
 ghost use Rattle.condition_formula.specs.Reaching.{exclusions};
-ghost use Rattle.condition_formula.specs.Writing.{Adds, AreSmall, each_implies, excludes_each};
-ghost use Rattle.std.specs.Prelude.{◌<◌, ◌^◌, [], ◌∷◌, map, OnOk};
+ghost use Rattle.condition_formula.specs.Writing.{Adds, AreSmall, IsSmall, each_implies};
+ghost use Rattle.condition_formula.specs.Writing.{excludes_each};
+ghost use Rattle.std.specs.Prelude.{◌<◌, ◌^◌, ◌++◌, [], ◌∷◌, map, All, OnOk};
 
-use crate::draft::Draft;
+use crate::part::{Part, no, yes};
 use crate::writer::Writer;
 use arc_base::Memory;
-use std::alloc::Global;
 
-/// At least one of the variables is true.
-pub(crate) fn some_of(alloc: Global, out: &mut Writer, variables: &[u64]) -> Result<(), Memory>
-    requires { AreSmall variables.now }
-    ensures { OnOk result (Adds out.old out.new (map yes variables.now ∷ [])) }
+/// At least one of the variables or of the other parts is true.
+pub(crate) fn some_of(out: &mut Writer, others: &[Part], variables: &[u64]) -> Result<(), Memory>
+    requires others { All IsSmall others.now }
+    requires variables { AreSmall variables.now }
+    ensures { OnOk result (Adds out.old out.new ((others.now ++ map yes variables.now) ∷ [])) }
 {
-    let mut draft = Draft::make(alloc);
-    draft.some_of(variables)?;
-    out.put(alloc, &draft)
+    let mut parts = Vec::from_slice(out.alloc, others)?;
+    for variable in variables {
+        parts.push(yes(*variable))?;
+    }
+    out.put(&parts)
 }
 
 /// The variable is false.
-fn not(alloc: Global, out: &mut Writer, variable: u64) -> Result<(), Memory>
+fn not(out: &mut Writer, variable: u64) -> Result<(), Memory>
     requires { variable < 2 ^ 62 }
     ensures { OnOk result (Adds out.old out.new ((no variable ∷ []) ∷ [])) }
 {
-    let mut draft = Draft::make(alloc);
-    draft.no(variable)?;
-    out.put(alloc, &draft)
+    out.put(&[no(variable)])
 }
 
 /// None of the variables is true.
-pub(crate) fn none_of(alloc: Global, out: &mut Writer, variables: &[u64]) -> Result<(), Memory>
+pub(crate) fn none_of(out: &mut Writer, variables: &[u64]) -> Result<(), Memory>
     requires { AreSmall variables.now }
     ensures { OnOk result (Adds out.old out.new (map (λ v. no v ∷ []) variables.now)) }
 {
     for variable in variables {
-        not(alloc, out, *variable)?;
+        not(out, *variable)?;
     }
     Ok(())
 }
 
 /// If the variable is true, so is one of the others.
-fn one_implies(alloc: Global, out: &mut Writer, one: u64, others: &[u64]) -> Result<(), Memory>
+fn one_implies(out: &mut Writer, one: u64, others: &[u64]) -> Result<(), Memory>
     requires one { one < 2 ^ 62 }
     requires others { AreSmall others.now }
     ensures { OnOk result (Adds out.old out.new ((no one ∷ map yes others.now) ∷ [])) }
 {
-    let mut draft = Draft::make(alloc);
-    draft.no(one)?;
-    draft.some_of(others)?;
-    out.put(alloc, &draft)
+    some_of(out, &[no(one)], others)
 }
 
 /// If one of the variables is true, so is one of the others.
-pub(crate) fn each_implies(
-    alloc: Global,
-    out: &mut Writer,
-    ones: &[u64],
-    others: &[u64],
-) -> Result<(), Memory>
+pub(crate) fn each_implies(out: &mut Writer, ones: &[u64], others: &[u64]) -> Result<(), Memory>
     requires ones { AreSmall ones.now }
     requires others { AreSmall others.now }
     ensures { OnOk result (Adds out.old out.new (each_implies ones.now others.now)) }
 {
     for one in ones {
-        one_implies(alloc, out, *one, others)?;
+        one_implies(out, *one, others)?;
     }
     Ok(())
 }
 
 /// Not both variables are true.
-fn not_both(alloc: Global, out: &mut Writer, one: u64, other: u64) -> Result<(), Memory>
+fn not_both(out: &mut Writer, one: u64, other: u64) -> Result<(), Memory>
     requires one { one < 2 ^ 62 }
     requires other { other < 2 ^ 62 }
     ensures { OnOk result (Adds out.old out.new ((no one ∷ no other ∷ []) ∷ [])) }
 {
-    let mut draft = Draft::make(alloc);
-    draft.no(one)?;
-    draft.no(other)?;
-    out.put(alloc, &draft)
+    out.put(&[no(one), no(other)])
 }
 
 /// The variable is not true together with any of the others.
-fn excludes_each(alloc: Global, out: &mut Writer, one: u64, others: &[u64]) -> Result<(), Memory>
+fn excludes_each(out: &mut Writer, one: u64, others: &[u64]) -> Result<(), Memory>
     requires one { one < 2 ^ 62 }
     requires others { AreSmall others.now }
     ensures { OnOk result (Adds out.old out.new (excludes_each one others.now)) }
 {
     for other in others {
-        not_both(alloc, out, one, *other)?;
+        not_both(out, one, *other)?;
     }
     Ok(())
 }
 
 /// At most one of the variables is true: a clause for each pair.
-pub(crate) fn exclusions(alloc: Global, out: &mut Writer, variables: &[u64]) -> Result<(), Memory>
+pub(crate) fn exclusions(out: &mut Writer, variables: &[u64]) -> Result<(), Memory>
     requires { AreSmall variables.now }
     ensures { OnOk result (Adds out.old out.new (exclusions (λ v. v) variables.now)) }
 {
     let mut rest = variables;
     while let Some((one, others)) = rest.split_first() {
-        excludes_each(alloc, out, *one, others)?;
+        excludes_each(out, *one, others)?;
         rest = others;
     }
     Ok(())

@@ -1,10 +1,10 @@
-use Rattle.std.proofs.Common.{ℕ, ◌+◌, ◌++◌, ap}
+use Rattle.std.proofs.Common.{ℕ, ◌+◌, ◌++◌}
 use Rattle.std.specs.List.{flat_map}
 use Rattle.condition_formula.specs.Lists.{upto}
 use Rattle.condition_formula.specs.Formulas.{cell}
 use Rattle.std.specs.Prelude.{slice_index_or}
 use Rattle.condition_formula.specs.Prices.{kept_parts, added_parts}
-use Rattle.condition_formula.proofs.Adding.{Adds-same, Adds-more}
+use Rattle.condition_formula.proofs.Adding.{Adds-more}
 use Rattle.condition_formula.proofs.counter.prices.Goals as goal
 
 pub loop-edit-preserved : goal.loop-edit-preserved
@@ -12,6 +12,4 @@ loop-edit-preserved c =
     Adds-more (λ (e : ℕ). flat_map
     (λ (n : ℕ). kept_parts (cell c.args.above.first c.args.above.columns) e n ++ added_parts (cell c.args.above.first c.args.above.columns)
     (slice_index_or c.args.weights.now e 0) e n) (upto (c.args.bound + 1))) c.args.out.now c.loop-edit.out c.counted.new.out c.loop-edit.edit c.loop-edit.invariant
-    (Adds-same _ _ _ _ (ap
-    (λ (w : ℕ). flat_map (λ (n : ℕ). kept_parts (cell c.args.above.first c.args.above.columns) c.loop-edit.edit n ++ added_parts
-    (cell c.args.above.first c.args.above.columns) w c.loop-edit.edit n) (upto (c.args.bound + 1))) c.weight_at.ensures) c.in_ok-counted.ensures)
+    c.in_ok-counted.ensures

@@ -6,6 +6,6 @@ use Rattle.condition_formula.proofs.paths.Paths.over_link.Given as goal
 
 abbrev pub invariant-loop-number : goal.invariant-loop-number
 invariant-loop-number l = record {
-  variables : l.variables ≡ map (λ (item : ℕ × ℕ). cell l.self.used.first l.self.used.columns item.0 item.1) (over_link l.self.q.now l.number l.link);
-  small : AreSmall l.variables;
+  variables : l.variables.items ≡ map (λ (item : ℕ × ℕ). cell l.self.used.first l.self.used.columns item.0 item.1) (over_link l.self.q.now l.number l.link);
+  small : AreSmall l.variables.items;
 }
