@@ -30,7 +30,7 @@ def notes_of(row: rules.Row) -> list[rules.Note]:
 def inert_of(file: str) -> set[tuple[str, ...]]:
     """The words of the lines that the program reads and says nothing of, by its source; of rows with other parts those of neighbours."""
     text = read(os.path.join(TOP, "crates", "ios_words", "src", file))
-    found = re.findall(r"inert!\(([^)]*)\)", text) + re.findall(r'row!\(Inert:\s*(Word\(b"neighbor"\).*?)Part::Anything', text, re.S)
+    found = re.findall(r"inert!\(([^)]*)\)", text) + re.findall(r'row!\(Inert:\s*(Word\(b"neighbor"\).*?)Anything', text, re.S)
     return {tuple(re.findall(r'b"([^"]*)"', words)) for words in found}
 
 
