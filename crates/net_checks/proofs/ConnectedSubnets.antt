@@ -1,15 +1,28 @@
 -- The connected subnets of interfaces as they are gathered.
-use Rattle.std.proofs.Common.{◌≡◌, ℕ, ◌⊎◌, inl, inr, Option, Some, None, List, [], subst, ◌↔◌}
+use Rattle.std.proofs.Common.{◌≡◌, ◌≤◌, ℕ, ◌⊎◌, inl, inr, Option, Some, None, List, [], sym, subst, ◌↔◌}
+use Rattle.std.specs.Prelude.{IfSome, option_map, option_and_then}
 use Rattle.std.proofs.lemmas.Option.{none-some, same_Some}
 use Rattle.arc_base.specs.declared.prefix.Prefix.{Prefix}
 use Rattle.arc_base.proofs.Items.{Contains-none}
 use Rattle.ios_config.specs.declared.settings.FaceText.{FaceText}
-use Rattle.net_rules.specs.Settings.{address_of}
+use Rattle.ios_config.specs.declared.settings.Given.{Given}
+use Rattle.net_rules.specs.Settings.{address_of, value}
+use Rattle.net_rules.specs.Forms.{IsWellFormedFace}
 use Rattle.net_rules.specs.Rows.{IsSubnet}
 use Rattle.net_rules.specs.Prefixes.{HasPrefix}
 use Rattle.net_rules.specs.Peers.{IsConnectedAt, IsConnected}
 use Rattle.net_rules.proofs.Gathered.{gathered_none}
 use Rattle.net_rules.proofs.SameRows.{one_subnet}
+
+-- the mask of an interface has at most 32 ones
+pub mask_of : (face : FaceText) (address : Option (ℕ × ℕ)) → address ≡ address_of face → IsWellFormedFace face → IfSome address (λ (a : ℕ × ℕ). a.1 ≤ 32)
+mask_of face address at well = subst (λ (o : Option (ℕ × ℕ)). IfSome o (λ (a : ℕ × ℕ). a.1 ≤ 32)) (sym at) (by face.addr face.mask_len well.mask_high)
+  where
+    by : (a : Option (Given ℕ)) (m : Option (Given ℕ)) → IfSome m (λ g. g.value ≤ 32) →
+        IfSome (option_and_then (λ (x : ℕ). option_map (λ (y : ℕ). (x, y)) (value m)) (value a)) (λ (p : ℕ × ℕ). p.1 ≤ 32)
+    by None m h = tt
+    by (Some a) None h = tt
+    by (Some a) (Some m) h = h
 
 -- the subnet of one more interface
 pub subnet_added : (face : FaceText) (old new : List (ℕ × ℕ)) (address : Option (ℕ × ℕ)) (found : Option Prefix) (subnet : Prefix) → address ≡ address_of face →

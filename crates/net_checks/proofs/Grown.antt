@@ -1,8 +1,13 @@
 -- Numbers that items have, held in a list that grows item by item.
-use Rattle.std.proofs.Common.{◌≡◌, ℕ, ◌+◌, ◌<◌, ◌⊎◌, inl, inr, List, [], ◌∷◌, ◌++◌, length, get_or, take, sym, subst}
+use Rattle.std.proofs.Common.{◌≡◌, ℕ, ◌+◌, ◌<◌, ◌⊎◌, inl, inr, Option, Some, None, refl, List, [], ◌∷◌, ◌++◌, length, get_or, take, sym, subst}
 use Rattle.std.specs.Prelude.{Any, Contains}
 use Rattle.std.proofs.lemmas.List.Elements.{Contains-append_left, Contains-push, Contains-push_cases}
 use Rattle.net_rules.proofs.Anys.{Any-before, Any-now, Any-either}
+
+-- what is no value is none
+pub never_some : {X : Type 0} (o : Option X) → ((x : X) → o ≡ Some x → ⊥) → o ≡ None
+never_some None never = refl
+never_some (Some x) never = absurd (never x refl)
 
 -- the list with one number more
 pub one_added : (old new : List ℕ) (x : ℕ) → new ≡ old ++ x ∷ [] → ((m : ℕ) → Contains new m → Contains old m ⊎ (x ≡ m)) × ((m : ℕ) → Contains old m → Contains new m) × Contains new x

@@ -2,7 +2,6 @@ mod LimitsKept
 mod OwnProcesses
 mod Grown
 mod Repeated
-mod Picks
 mod AreaLines
 mod Adjacencies
 mod StopsFirst

@@ -1,5 +1,5 @@
 -- The far ends of links as they are gathered, and the neighbours that are named without being among them.
-use Rattle.std.proofs.Common.{◌≡◌, ℕ, ◌+◌, ◌<◌, ◌⊎◌, inl, inr, Option, Some, None, List, length, get_or, take, refl, sym, ◌∙◌, ap, subst, Bool, true, false, ◌↔◌, nat_eq, if◌then◌else◌}
+use Rattle.std.proofs.Common.{◌≡◌, ◌≢◌, ℕ, ◌+◌, ◌<◌, ◌⊎◌, inl, inr, Option, Some, None, List, length, get_or, take, refl, sym, ◌∙◌, ap, subst, Bool, true, false, ◌↔◌, nat_eq, if◌then◌else◌}
 use Rattle.std.specs.Prelude.{Any, All, Contains, IsSome}
 use Rattle.std.specs.Option.{option_or}
 use Rattle.std.proofs.lemmas.Bool.{false≢true}
@@ -14,7 +14,7 @@ use Rattle.ios_words.specs.declared.commands.Command.TheVariants as commands
 use Rattle.ios_config.specs.declared.settings.Given.{Given}
 use Rattle.net_rules.specs.Neighbors.{says_remote, remote_of}
 use Rattle.ios_config.specs.Least.{FindsLeast}
-use Rattle.net_checks.specs.FarEnds.{LeadsTo, LinkLeadsTo, AddsFarEnd, IsListed, IsReached, gives_remote}
+use Rattle.net_checks.specs.FarEnds.{LeadsTo, LinkLeadsTo, AddsFarEnd, IsListed, IsReached}
 use Rattle.net_rules.specs.Peers.{NamesOther}
 use Rattle.net_rules.specs.Settings.{lines_of}
 use Rattle.ios_config.specs.declared.settings.Config.{Config}
@@ -116,6 +116,11 @@ pub least_others : (P Q : ℕ → Type 0) → ((peer : ℕ) → P peer ↔ Q pee
 least_others P Q same lines found least =
     least_same (λ n. Any (NamesOther P n) lines) (λ n. Any (NamesOther Q n) lines) found (others_same P Q same lines) (others_same Q P (λ peer. ((same peer).1, (same peer).0)) lines) least
 
+-- the neighbour to which the command gives an AS
+abbrev pub gives_remote : Command → Option ℕ
+gives_remote (commands.RemoteAs peer asn) = Some peer
+gives_remote other = None
+
 -- the command gives an AS to the neighbour to which it gives one, and to no other
 pub says_if : (command : Command) (peer : ℕ) → IsSome (says_remote peer command) ↔ (gives_remote command ≡ Some peer)
 says_if (commands.Hostname a) peer = (λ h. absurd (no_some ℕ h), λ e. absurd (none-some peer e))
@@ -144,6 +149,11 @@ says_if (commands.NeighborList a b) peer = (λ h. absurd (no_some ℕ h), λ e. 
 says_if (commands.Tells a) peer = (λ h. absurd (no_some ℕ h), λ e. absurd (none-some peer e))
 says_if (commands.Entry a b) peer = (λ h. absurd (no_some ℕ h), λ e. absurd (none-some peer e))
 says_if commands.Inert peer = (λ h. absurd (no_some ℕ h), λ e. absurd (none-some peer e))
+
+-- a command of another kind gives no AS
+pub not_remote : (command : Command) → ((peer asn : ℕ) → command ≢ commands.RemoteAs peer asn) → gives_remote command ≡ None
+not_remote (commands.RemoteAs peer asn) differs = absurd (differs peer asn refl)
+not_remote other differs = refl
 
 -- one more command, to whose neighbour an AS is given
 pub no_remote : (command : Command) (old : List ℕ) → gives_remote command ≡ None → (peer : ℕ) → Contains old peer ↔ (Contains old peer ⊎ IsSome (says_remote peer command))

@@ -1,12 +1,10 @@
 -- The far ends of links as they are gathered, and the neighbours that are named without being among
 -- them.
-use Rattle.std.specs.Prelude.{◌≡◌, ℕ, ◌⊎◌, ◌↔◌, Option, Some, None, MatchOption, List, Contains}
+use Rattle.std.specs.Prelude.{◌≡◌, ℕ, ◌⊎◌, ◌↔◌, Option, Some, MatchOption, List, Contains}
 use Rattle.std.specs.Prelude.{IsSome, slice_get, option_and_then}
 use Rattle.arc_base.specs.declared.place.Face.{Face}
 use Rattle.net_model.specs.declared.rows.FaceRow.{FaceRow}
 use Rattle.net_model.specs.declared.rows.LinkRow.{LinkRow}
-use Rattle.ios_words.specs.declared.commands.Command.{Command}
-use Rattle.ios_words.specs.declared.commands.Command.TheVariants as commands
 use Rattle.ios_config.specs.declared.settings.Config.{Config}
 use Rattle.net_rules.specs.Settings.{lines_of}
 use Rattle.net_rules.specs.Neighbors.{remote_of}
@@ -40,8 +38,3 @@ IsListed ends remotes router peer = Contains ends (router, peer) × Contains rem
 abbrev pub IsReached : List (ℕ × ℕ) → ℕ → Config → ℕ → Type 0
 IsReached ends router config peer =
     Contains ends (router, peer) × IsSome (remote_of (lines_of config) peer)
-
--- the neighbour to which the command gives an AS
-abbrev pub gives_remote : Command → Option ℕ
-gives_remote (commands.RemoteAs peer asn) = Some peer
-gives_remote other = None

@@ -3,17 +3,16 @@
 ghost use Rattle.arc_base.specs.Lists.{AreDistinct};
 ghost use Rattle.net_rules.specs.Settings.{is_point_to_point};
 ghost use Rattle.net_rules.specs.Sites.{full_names, sites};
-ghost use Rattle.std.specs.Prelude.{◌≡◌, ◌≤◌, ◌↔◌, length, None, IsTrue, option_map, slice_get};
+ghost use Rattle.std.specs.Prelude.{◌≡◌, ◌≤◌, ◌↔◌, length, IsTrue, option_map, slice_get};
 ghost use Rattle.arc_base.specs.declared.refusal.Kind.TheVariants as kinds;
 ghost use Rattle.net_model.specs.declared.policies.Document.{Document};
-ghost use Rattle.net_rules.specs.Linking.{RefusesAdjacencyForm, TypesDiffer, says_router_id};
+ghost use Rattle.net_rules.specs.Linking.{RefusesAdjacencyForm, TypesDiffer};
 ghost use Rattle.net_rules.specs.Linking.{router_id_line, router_id_of};
 ghost use Rattle.net_rules.specs.Reasons.{TriedAlone, InFiles, InDocument};
 ghost use Rattle.net_rules.specs.Routers.{Repeats};
 ghost use Rattle.net_rules.specs.Rows.{AreRows};
-ghost use Rattle.std.specs.List.{filter_map, last_or};
 
-use crate::repeats::add_given;
+use crate::routers::add_given;
 use arc_base::limits::{LINK_LIMIT, ROUTER_LIMIT};
 use arc_base::{Face, Kind, List};
 use indexmap::IndexSet;
@@ -29,10 +28,7 @@ fn type_at(configs: &List<Config>, face: Face) -> Option<bool>
     ensures { result
         ≡ option_map (λ site. is_point_to_point site.face) (slice_get (sites configs.now) face.0) }
 {
-    match spot_at(configs, face.0) {
-        Some(spot) => Some(has_point_type(spot.face)),
-        None => None,
-    }
+    Some(has_point_type(spot_at(configs, face.0)?.face))
 }
 
 fn types_differ(configs: &List<Config>, link: &LinkRow) -> bool
@@ -47,43 +43,28 @@ fn types_differ(configs: &List<Config>, link: &LinkRow) -> bool
     a != b
 }
 
-fn says_router_id(command: &Command) -> Option<u32>
-    ensures { result ≡ says_router_id command.now }
-{
-    match command {
-        Command::RouterId(id) => Some(*id),
-        _ => None,
-    }
-}
-
 /// The router id that a line sets, with the line.
 fn router_id_line(line: &Given<Command>) -> Option<Given<u32>>
     ensures { result ≡ router_id_line line.now }
 {
-    match says_router_id(&line.value) {
-        Some(id) => Some(Given {
-            value: id,
+    match &line.value {
+        Command::RouterId(id) => Some(Given {
+            value: *id,
             line: line.line,
         }),
-        None => None,
+        _ => None,
     }
-}
-
-fn last_router_id(lines: &[Given<Command>]) -> Option<Given<u32>>
-    ensures { result ≡ last_or None (filter_map router_id_line lines.now) }
-{
-    let mut last = None;
-    for line in lines {
-        last = router_id_line(line).or(last);
-    }
-    last
 }
 
 /// The router id of the file's process, with the last line that sets it.
 fn router_id_of(config: &Config) -> Option<Given<u32>>
     ensures { result ≡ router_id_of config.now }
 {
-    last_router_id(lines_of(config))
+    let mut last = None;
+    for line in lines_of(config) {
+        last = router_id_line(line).or(last);
+    }
+    last
 }
 
 fn try_types(net: &Network, configs: &List<Config>) -> Result<(), NetFault>
@@ -107,9 +88,8 @@ fn try_router_ids(alloc: Global, configs: &List<Config>) -> Result<(), NetFault>
 {
     let mut ids = IndexSet::new(alloc);
     for (place, config) in configs.slice().iter().enumerate() {
-        match add_given(&mut ids, router_id_of(config))? {
-            Some(line) => return Err(in_file(place, line, Kind::AdjacencyForm)),
-            None => {}
+        if let Some(line) = add_given(&mut ids, router_id_of(config))? {
+            return Err(in_file(place, line, Kind::AdjacencyForm));
         }
     }
     Ok(())

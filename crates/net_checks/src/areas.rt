@@ -2,11 +2,9 @@
 ghost use Rattle.ios_config.specs.Least.{FindsLeast};
 ghost use Rattle.net_checks.specs.Growing.{sooner, IsSoonest, line_of_other};
 ghost use Rattle.net_rules.specs.Reasons.{TriedAlone};
-ghost use Rattle.net_rules.specs.Routers.{RefusesTwoAreas, area_of_command, line_area, face_area};
-ghost use Rattle.net_rules.specs.Routers.{areas_of, IsFirstArea, IsOther};
-ghost use Rattle.std.specs.List.{filter_map, cons_option};
-ghost use Rattle.std.specs.Prelude.{◌≡◌, [], ◌++◌, ◌≤◌, ◌<◌, ℕ, length, IfOk, OnOk, MatchOption};
-ghost use Rattle.std.specs.Prelude.{Any};
+ghost use Rattle.net_rules.specs.Routers.{RefusesTwoAreas, line_area, face_area, areas_of};
+ghost use Rattle.net_rules.specs.Routers.{IsFirstArea, IsOther};
+ghost use Rattle.std.specs.Prelude.{◌≡◌, ◌≤◌, ◌<◌, ℕ, length, IfOk, MatchOption, Any};
 
 use arc_base::limits::ROUTER_LIMIT;
 use arc_base::{Kind, List, Memory};
@@ -17,24 +15,15 @@ use net_rules::{in_file, lines_of};
 use std::alloc::Global;
 
 /// The area of a network statement.
-fn area_of_command(command: &Command) -> Option<u32>
-    ensures { result ≡ area_of_command command.now }
-{
-    match command {
-        Command::Covers(_, area) => Some(*area),
-        _ => None,
-    }
-}
-
 fn line_area(line: &Given<Command>) -> Option<Given<u32>>
     ensures { result ≡ line_area line.now }
 {
-    match area_of_command(&line.value) {
-        Some(area) => Some(Given {
-            value: area,
+    match &line.value {
+        Command::Covers(_, area) => Some(Given {
+            value: *area,
             line: line.line,
         }),
-        None => None,
+        _ => None,
     }
 }
 
@@ -51,45 +40,14 @@ fn face_area(face: &FaceText) -> Option<Given<u32>>
     }
 }
 
-/// Adds an area, if there is one.
-fn add_area(areas: &mut Vec<Given<u32>>, found: Option<Given<u32>>) -> Result<(), Memory>
-    ensures { OnOk result (areas.new.items ≡ areas.old.items ++ cons_option found []) }
-{
-    match found {
-        Some(area) => {
-            areas.push(area)?;
-            Ok(())
-        }
-        None => Ok(()),
-    }
-}
-
-fn add_line_areas(areas: &mut Vec<Given<u32>>, lines: &[Given<Command>]) -> Result<(), Memory>
-    ensures { OnOk result (areas.new.items ≡ areas.old.items ++ filter_map line_area lines.now) }
-{
-    for line in lines {
-        add_area(areas, line_area(line))?;
-    }
-    Ok(())
-}
-
-fn add_face_areas(areas: &mut Vec<Given<u32>>, faces: &List<FaceText>) -> Result<(), Memory>
-    ensures { OnOk result (areas.new.items ≡ areas.old.items ++ filter_map face_area faces.now) }
-{
-    for face in faces.slice() {
-        add_area(areas, face_area(face))?;
-    }
-    Ok(())
-}
-
 /// The areas that the file names, with their lines.
 fn areas_of(alloc: Global, config: &Config) -> Result<Vec<Given<u32>>, Memory>
     ensures { IfOk result (λ areas. areas.items ≡ areas_of config.now) }
 {
-    let mut areas = Vec::new(alloc);
-    add_line_areas(&mut areas, lines_of(config))?;
-    add_face_areas(&mut areas, &config.faces)?;
-    Ok(areas)
+    let of_lines = lines_of(config).iter().filter_map(|line| line_area(line));
+    let faces = config.faces.slice().iter();
+    let of_faces = faces.filter_map(|face| face_area(face));
+    Ok(of_lines.chain(of_faces).collect(alloc)?)
 }
 
 /// The area at the lesser line.
@@ -155,14 +113,6 @@ fn first_other(area: u32, areas: &[Given<u32>]) -> Option<u32>
     least
 }
 
-/// The first line of the file that names another area than this.
-fn other_area_in(alloc: Global, area: u32, config: &Config) -> Result<Option<u32>, Memory>
-    ensures { IfOk result (FindsLeast (λ line. Any (IsOther area line) (areas_of config.now))) }
-{
-    let areas = areas_of(alloc, config)?;
-    Ok(first_other(area, &areas))
-}
-
 /// Checks whether all OSPF areas are the same.
 pub fn try_areas(alloc: Global, configs: &List<Config>) -> Result<(), NetFault>
     requires { length configs.now ≤ ROUTER_LIMIT }
@@ -172,9 +122,9 @@ pub fn try_areas(alloc: Global, configs: &List<Config>) -> Result<(), NetFault>
         return Ok(());
     };
     for (place, config) in configs.slice().iter().enumerate() {
-        match other_area_in(alloc, area, config)? {
-            Some(line) => return Err(in_file(place, line, Kind::TwoAreas)),
-            None => {}
+        let areas = areas_of(alloc, config)?;
+        if let Some(line) = first_other(area, &areas) {
+            return Err(in_file(place, line, Kind::TwoAreas));
         }
     }
     Ok(())

@@ -10,24 +10,19 @@
 mod adjacency;
 mod areas;
 mod claims;
-mod endpoints;
+mod ends;
 mod limits;
 mod overlap;
 mod peers;
-mod processes;
-mod repeats;
 mod routers;
 mod session_packets;
 mod stops;
-mod subnets;
 
 pub use adjacency::try_adjacency;
 pub use areas::try_areas;
-pub use endpoints::{has_endpoints, try_endpoints};
+pub use ends::{has_endpoints, try_endpoints, try_subnets};
 pub use limits::{try_entries, try_interfaces};
 pub use overlap::try_overlap;
 pub use peers::{try_neighbors, try_networks};
-pub use processes::try_processes;
-pub use routers::{try_as_numbers, try_hostnames};
+pub use routers::{try_as_numbers, try_hostnames, try_processes};
 pub use stops::try_lists;
-pub use subnets::try_subnets;

@@ -9,7 +9,7 @@ ghost use Rattle.net_rules.specs.Addressing.{RefusesOverlap, OverlapsEarlier};
 ghost use Rattle.net_rules.specs.Reasons.{TriedAlone};
 ghost use Rattle.net_rules.specs.Rows.{AreRows};
 ghost use Rattle.net_rules.specs.Sites.{full_names, sites};
-ghost use Rattle.std.specs.List.{range_with_len, cons_option};
+ghost use Rattle.std.specs.List.{cons_option};
 ghost use Rattle.std.specs.Option.{option_map_or};
 ghost use Rattle.std.specs.Prelude.{[], ◌++◌, ◌≡◌, ◌<◌, ◌≤◌, ◌^◌, IfOk, IfNone, OnOk, MatchBool};
 ghost use Rattle.std.specs.Prelude.{MatchOption, All, AllPairs, length, ℕ};
@@ -34,17 +34,6 @@ fn are_linked_or_apart(claims: Vec<Claim>) -> Result<bool, Memory>
     Ok(Claim::neighbours_are_linked_or_apart(&sorted))
 }
 
-/// The numbers below this one.
-fn own_places(alloc: Global, count: u32) -> Result<Vec<u32>, Memory>
-    ensures { IfOk result (λ places. places.items ≡ range_with_len 0 count) }
-{
-    let mut places = Vec::new(alloc);
-    for place in 0..count {
-        places.push(place)?;
-    }
-    Ok(places)
-}
-
 /// The partner of each interface.
 fn partners(alloc: Global, links: &List<LinkRow>, faces: u32) -> Result<Vec<u32>, Memory>
     requires a_within { All (λ link. link.a.0 < faces) links.now }
@@ -54,7 +43,7 @@ fn partners(alloc: Global, links: &List<LinkRow>, faces: u32) -> Result<Vec<u32>
         ArePartners (length links.now) links.now partners.items) }
     ensures long { IfOk result (λ partners. length partners.items ≡ faces) }
 {
-    let mut partners = own_places(alloc, faces)?;
+    let mut partners: Vec<u32> = (0..faces).collect(alloc)?;
     for link in links.slice() {
         let LinkRow { a, b, .. } = *link;
         partners[a.0 as usize] = b.0;
@@ -74,17 +63,14 @@ fn add_claim(
     ensures { OnOk result
         (claims.new.items ≡ claims.old.items ++ cons_option (claim_of face.now place partner) []) }
 {
-    match face.subnet {
-        Some(subnet) => {
-            claims.push(Claim {
-                subnet,
-                place: place as u32,
-                partner,
-            })?;
-            Ok(())
-        }
-        None => Ok(()),
+    if let Some(subnet) = face.subnet {
+        claims.push(Claim {
+            subnet,
+            place: place as u32,
+            partner,
+        })?;
     }
+    Ok(())
 }
 
 /// The claims of the interfaces that have a subnet.

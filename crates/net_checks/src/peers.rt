@@ -1,26 +1,24 @@
 //! What the lines of BGP processes name: neighbours at the far ends of links, and connected
 //! networks.
-ghost use Rattle.arc_base.specs.declared.prefix.Prefix.{Prefix};
+ghost use Rattle.arc_base.specs.Lists.{AreDistinct};
+ghost use Rattle.arc_base.specs.declared.refusal.Kind.TheVariants as kinds;
+ghost use Rattle.ios_config.specs.Least.{FindsLeast};
 ghost use Rattle.ios_config.specs.declared.settings.Config.{Config};
 ghost use Rattle.ios_config.specs.declared.settings.Given.{Given};
+ghost use Rattle.net_checks.specs.FarEnds.{FindsOnly, LeadsTo, LinkLeadsTo, AddsFarEnd, IsListed};
+ghost use Rattle.net_checks.specs.FarEnds.{IsReached};
+ghost use Rattle.net_checks.specs.Subnets.{AreSubnets};
 ghost use Rattle.net_model.specs.declared.policies.Document.{Document};
 ghost use Rattle.net_rules.specs.Forms.{IsWellFormed, IsWellFormedFace};
 ghost use Rattle.net_rules.specs.Neighbors.{names_peer, remote_of, says_remote};
-ghost use Rattle.net_rules.specs.Settings.{lines_of};
-ghost use Rattle.std.specs.Prelude.{◌≡◌, ◌≤◌, ◌<◌, ◌↔◌, ◌⊎◌, ℕ, Any, All, Contains, IfOk, IsTrue};
-ghost use Rattle.std.specs.Prelude.{IsSome, length};
-ghost use Rattle.arc_base.specs.declared.refusal.Kind.TheVariants as kinds;
-ghost use Rattle.arc_base.specs.Lists.{AreDistinct};
-ghost use Rattle.ios_config.specs.Least.{FindsLeast};
-ghost use Rattle.net_checks.specs.FarEnds.{FindsOnly, LeadsTo, LinkLeadsTo, AddsFarEnd, IsListed};
-ghost use Rattle.net_checks.specs.FarEnds.{IsReached, gives_remote};
-ghost use Rattle.net_checks.specs.Subnets.{AreSubnets};
-ghost use Rattle.net_rules.specs.Peers.{NamesOther, RefusesNeighbor, RefusesNetwork, IsConnectedAt};
+ghost use Rattle.net_rules.specs.Peers.{NamesOther, RefusesNeighbor, RefusesNetwork};
 ghost use Rattle.net_rules.specs.Peers.{TellsUnconnected};
-ghost use Rattle.net_rules.specs.Prefixes.{HasPrefix};
 ghost use Rattle.net_rules.specs.Reasons.{TriedAlone, InFiles};
 ghost use Rattle.net_rules.specs.Rows.{AreBaseRows};
+ghost use Rattle.net_rules.specs.Settings.{lines_of};
 ghost use Rattle.net_rules.specs.Sites.{full_names};
+ghost use Rattle.std.specs.Prelude.{◌≡◌, ◌≤◌, ◌<◌, ◌↔◌, ◌⊎◌, ℕ, Any, All, Contains, IfOk, IsTrue};
+ghost use Rattle.std.specs.Prelude.{IsSome, length};
 
 use arc_base::limits::ROUTER_LIMIT;
 use arc_base::{Face, Kind, List, Memory};
@@ -41,13 +39,9 @@ type FarEnd = (u32, u32);
 fn far_end(net: &Network, near: Face, far: Face) -> Option<FarEnd>
     ensures { FindsOnly (LeadsTo net.now.faces near far) result }
 {
-    match net.faces.get(near.0) {
-        None => None,
-        Some(row) => match address_at(net, far) {
-            None => None,
-            Some(address) => Some((row.router.0, address)),
-        },
-    }
+    let row = net.faces.get(near.0)?;
+    let address = address_at(net, far)?;
+    Some((row.router.0, address))
 }
 
 fn add_far_end(
@@ -58,13 +52,10 @@ fn add_far_end(
 ) -> Result<(), Memory>
     ensures { IfOk result (λ done. AddsFarEnd net.now.faces near far ends.old.keys ends.new.keys) }
 {
-    match far_end(net, near, far) {
-        None => Ok(()),
-        Some(pair) => {
-            ends.insert_full(pair)?;
-            Ok(())
-        }
+    if let Some(pair) = far_end(net, near, far) {
+        ends.insert_full(pair)?;
     }
+    Ok(())
 }
 
 /// The far ends of the links of all routers.
@@ -80,27 +71,14 @@ fn far_ends(alloc: Global, net: &Network) -> Result<IndexSet<FarEnd>, Memory>
     Ok(ends)
 }
 
-/// The neighbour to which the command gives an AS.
-fn gives_remote(command: &Command) -> Option<u32>
-    ensures { result ≡ gives_remote command.now }
-{
-    match command {
-        Command::RemoteAs(peer, _) => Some(*peer),
-        _ => None,
-    }
-}
-
 fn add_remote(peers: &mut IndexSet<u32>, command: &Command) -> Result<(), Memory>
     ensures { IfOk result (λ done. (peer : ℕ) → Contains peers.new.keys peer ↔
         (Contains peers.old.keys peer ⊎ IsSome (says_remote peer command.now))) }
 {
-    match gives_remote(command) {
-        None => Ok(()),
-        Some(peer) => {
-            peers.insert_full(peer)?;
-            Ok(())
-        }
+    if let Command::RemoteAs(peer, _) = command {
+        peers.insert_full(*peer)?;
     }
+    Ok(())
 }
 
 /// The neighbours to which the lines give an AS.
@@ -142,15 +120,11 @@ fn names_unknown(
     ensures { FindsLeast
         (λ n. NamesOther (IsListed ends.now.keys remotes.now.keys router) n line.now) result }
 {
-    match names_peer(&line.value) {
-        None => None,
-        Some(peer) => {
-            if is_listed(ends, remotes, router, peer) {
-                return None;
-            }
-            Some(line.line)
-        }
+    let peer = names_peer(&line.value)?;
+    if is_listed(ends, remotes, router, peer) {
+        return None;
     }
+    Some(line.line)
 }
 
 /// The first line of the file that names a neighbour which is not known.
@@ -200,21 +174,6 @@ pub fn try_neighbors(alloc: Global, net: &Network, configs: &List<Config>) -> Re
     try_known(alloc, &ends, configs)
 }
 
-/// Adds the connected subnet of the interface, if it has one.
-fn add_subnet(subnets: &mut Prefixes, face: &FaceText) -> Result<(), Memory>
-    requires { IsWellFormedFace face.now }
-    ensures { IfOk result (λ done. (p : Prefix) →
-        HasPrefix subnets.new.keys p ↔ (HasPrefix subnets.old.keys p ⊎ IsConnectedAt face.now p)) }
-{
-    match subnet_of(address_of(face)) {
-        Some(subnet) => {
-            add_prefix(subnets, &subnet)?;
-            Ok(())
-        }
-        None => Ok(()),
-    }
-}
-
 /// The connected subnets of the interfaces.
 fn subnets(alloc: Global, faces: &List<FaceText>) -> Result<Prefixes, Memory>
     requires { All IsWellFormedFace faces.now }
@@ -222,7 +181,9 @@ fn subnets(alloc: Global, faces: &List<FaceText>) -> Result<Prefixes, Memory>
 {
     let mut subnets = IndexSet::new(alloc);
     for face in faces.slice() {
-        add_subnet(&mut subnets, face)?;
+        if let Some(subnet) = subnet_of(address_of(face)) {
+            add_prefix(&mut subnets, &subnet)?;
+        }
     }
     Ok(subnets)
 }
@@ -265,9 +226,8 @@ pub fn try_networks(alloc: Global, configs: &List<Config>) -> Result<(), NetFaul
     ensures { TriedAlone (RefusesNetwork configs.now) result }
 {
     for (place, config) in configs.slice().iter().enumerate() {
-        match unconnected(alloc, config)? {
-            Some(line) => return Err(in_file(place, line, Kind::NetworkNotConnected)),
-            None => {}
+        if let Some(line) = unconnected(alloc, config)? {
+            return Err(in_file(place, line, Kind::NetworkNotConnected));
         }
     }
     Ok(())

@@ -66,14 +66,12 @@ fn refusal_at(configs: &List<Config>, place: u32) -> Option<Refusal>
     requires { length configs.now ≤ ROUTER_LIMIT }
     ensures { FindsOnly (IsRefusalAt configs.now place) result }
 {
-    match spot_at(configs, place) {
-        None => None,
-        Some(spot) => Some(Refusal {
-            file: spot.router as u32 + 1,
-            number: list_line(spot.face),
-            kind: Kind::ListStopsSession,
-        }),
-    }
+    let spot = spot_at(configs, place)?;
+    Some(Refusal {
+        file: spot.router as u32 + 1,
+        number: list_line(spot.face),
+        kind: Kind::ListStopsSession,
+    })
 }
 
 /// The refusal of the end of the link at which a list stops the session, if one does there.
@@ -81,18 +79,12 @@ fn stopped(net: &Network, configs: &List<Config>, link: &LinkRow, from_a: bool) 
     requires { length configs.now ≤ ROUTER_LIMIT }
     ensures { FindsOnly (StopsAt net.now configs.now link.now from_a) result }
 {
-    match net.faces.get(link.tail(from_a).0) {
-        None => None,
-        Some(tail) => match net.faces.get(link.head(from_a).0) {
-            None => None,
-            Some(head) => {
-                if !stops_between(net, link, from_a, tail, head) {
-                    return None;
-                }
-                refusal_at(configs, link.head(from_a).0)
-            }
-        },
+    let tail = net.faces.get(link.tail(from_a).0)?;
+    let head = net.faces.get(link.head(from_a).0)?;
+    if !stops_between(net, link, from_a, tail, head) {
+        return None;
     }
+    refusal_at(configs, link.head(from_a).0)
 }
 
 fn is_before(a: &Refusal, b: &Refusal) -> bool

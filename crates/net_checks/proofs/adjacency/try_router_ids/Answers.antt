@@ -9,7 +9,7 @@ use Rattle.net_rules.specs.Routers.{GivesNumber, Repeats}
 use Rattle.net_rules.specs.Linking.{router_id_of}
 use Rattle.net_rules.proofs.Firsts.{tried_refused, first_found, clear_more, clear_all}
 use Rattle.net_checks.specs.Growing.{AddsGiven}
-use Rattle.net_checks.proofs.Grown.{held_more, holds_more}
+use Rattle.net_checks.proofs.Grown.{never_some, held_more, holds_more}
 use Rattle.net_checks.proofs.Repeated.{own_number, other_number}
 use Rattle.net_checks.proofs.adjacency.try_router_ids.Goals as goal
 
@@ -32,7 +32,7 @@ loop-place-preserved c =
     let items : List Config = c.slice-config-items.result.now in
     let adds : AddsGiven c.loop-place.ids.keys c.add_given.new.numbers.keys (router_id_of c.config-item.result) None =
     subst (λ (number : Option (Given ℕ)). AddsGiven c.loop-place.ids.keys c.add_given.new.numbers.keys number None) c.router_id_of.ensures
-    (subst (λ (o : Option ℕ). AddsGiven c.loop-place.ids.keys c.add_given.new.numbers.keys c.router_id_of.result o) c.in-None.is c.in_ok-line.ensures) in
+    (subst (λ (o : Option ℕ). AddsGiven c.loop-place.ids.keys c.add_given.new.numbers.keys c.router_id_of.result o) (never_some c.in_ok-line.field-0 (λ line. c.in_default.not-Some line)) c.in_ok-line.ensures) in
     record {
       held = held_more (GivesNumber router_id_of) items c.loop-place.place c.config-item.result c.loop-place-test.true c.config-item.is c.loop-place.ids.keys c.add_given.new.numbers.keys
           c.loop-place.invariant.held adds.1;

@@ -1,5 +1,7 @@
 use Rattle.std.proofs.Common.{◌≡◌, ◌<◌, ℕ, List, Some, length, get_or, set, false, ap, sym, ◌∙◌, subst, arith}
-use Rattle.std.specs.Prelude.{All, AllPairs, slice_get}
+use Rattle.std.specs.Prelude.{All, AllPairs, Ok, slice_get}
+use Rattle.std.specs.List.{range_with_len}
+use Rattle.std.proofs.lemmas.Iterator.{items_from_collect, YieldsList-from_range}
 use Rattle.std.proofs.lemmas.List.{length-set}
 use Rattle.std.proofs.lemmas.List.FromFn.{length-range_with_len}
 use Rattle.std.proofs.lemmas.Option.{slice_get-get_or}
@@ -10,10 +12,13 @@ use Rattle.net_checks.proofs.Partners.{own_themselves, partners_more}
 use Rattle.net_checks.proofs.overlap.partners.Goals as goal
 
 pub loop-link-init : goal.loop-link-init
-loop-link-init c = record {
-  partners = subst (λ (l : List ℕ). ArePartners 0 c.slice-link-items.result.now l) (sym c.in_ok-partners.ensures) (own_themselves c.slice-link-items.result.now c.args.faces);
-  long = ap length c.in_ok-partners.ensures ∙ length-range_with_len 0 c.args.faces;
-}
+loop-link-init c =
+    let own : c.in_ok-partners.partners.items ≡ range_with_len 0 c.args.faces =
+    items_from_collect {E = ℕ} (Ok c.in_ok-partners.partners) c.in_ok-partners.ensures.ran (YieldsList-from_range 0 c.args.faces c.args.faces (cc) (omega arith)) in
+    record {
+      partners = subst (λ (l : List ℕ). ArePartners 0 c.slice-link-items.result.now l) (sym own) (own_themselves c.slice-link-items.result.now c.args.faces);
+      long = ap length own ∙ length-range_with_len 0 c.args.faces;
+    }
 
 pub loop-link-preserved : goal.loop-link-preserved
 loop-link-preserved c =

@@ -9,6 +9,7 @@ use Rattle.ios_config.specs.Least.{FindsLeast}
 use Rattle.net_rules.specs.Reasons.{NoRefusal, IsEarliest}
 use Rattle.net_rules.specs.Peers.{RefusesNetwork, TellsUnconnected}
 use Rattle.net_rules.proofs.Firsts.{tried_refused, first_found, clear_more, clear_all}
+use Rattle.net_checks.proofs.Grown.{never_some}
 use Rattle.net_checks.proofs.PeersEnds.{item_of_all}
 use Rattle.net_checks.proofs.peers.try_networks.Goals as goal
 
@@ -31,7 +32,7 @@ returns-in-Some c =
 
 pub loop-place-preserved : goal.loop-place-preserved
 loop-place-preserved c =
-    let none = subst (λ (o : Option ℕ). FindsLeast (Offends c.loop-place.place c.config-item.result) o) c.in-None.is c.in_ok-line.ensures in
+    let none = subst (λ (o : Option ℕ). FindsLeast (Offends c.loop-place.place c.config-item.result) o) (never_some c.in_ok-line.field-0 (λ line. c.in_default.not-Some line)) c.in_ok-line.ensures in
     clear_more kinds.NetworkNotConnected Offends c.slice-config-items.result.now c.loop-place.place c.config-item.result c.loop-place-test.true c.config-item.is c.loop-place.invariant none
 
 pub returns : goal.returns

@@ -7,7 +7,7 @@ use Rattle.net_rules.specs.Reasons.{NoRefusal, IsEarliest}
 use Rattle.net_rules.specs.Routers.{as_of, GivesNumber, Repeats, RefusesSameAs}
 use Rattle.net_rules.proofs.Firsts.{tried_refused, first_found, clear_more, clear_all}
 use Rattle.net_checks.specs.Growing.{AddsGiven}
-use Rattle.net_checks.proofs.Grown.{held_more, holds_more}
+use Rattle.net_checks.proofs.Grown.{never_some, held_more, holds_more}
 use Rattle.net_checks.proofs.Repeated.{own_number, other_number}
 use Rattle.net_checks.proofs.routers.try_as_numbers.Goals as goal
 
@@ -29,7 +29,7 @@ loop-place-preserved c =
     let items : List Config = c.slice-config-items.result.now in
     let adds : AddsGiven c.loop-place.numbers.keys c.add_given.new.numbers.keys (as_of c.config-item.result) None =
     subst (λ (number : Option (Given ℕ)). AddsGiven c.loop-place.numbers.keys c.add_given.new.numbers.keys number None) c.as_of.ensures
-    (subst (λ (o : Option ℕ). AddsGiven c.loop-place.numbers.keys c.add_given.new.numbers.keys c.as_of.result o) c.in-None.is c.in_ok-line.ensures) in
+    (subst (λ (o : Option ℕ). AddsGiven c.loop-place.numbers.keys c.add_given.new.numbers.keys c.as_of.result o) (never_some c.in_ok-line.field-0 (λ line. c.in_default.not-Some line)) c.in_ok-line.ensures) in
     record {
       held = held_more (GivesNumber as_of) items c.loop-place.place c.config-item.result c.loop-place-test.true c.config-item.is c.loop-place.numbers.keys c.add_given.new.numbers.keys
           c.loop-place.invariant.held adds.1;

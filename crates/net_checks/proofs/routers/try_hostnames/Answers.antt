@@ -7,6 +7,7 @@ use Rattle.net_rules.specs.Routers.{RefusesHostname, HasNoOwnName}
 use Rattle.net_rules.proofs.Firsts.{tried_refused, first_found, clear_more, clear_all}
 use denote.Ref.{Bor}
 use Rattle.net_rules.proofs.Named.{AddsName, names_more, named_more, own_name, other_name}
+use Rattle.net_checks.proofs.Grown.{never_some}
 use Rattle.net_checks.proofs.routers.try_hostnames.Goals as goal
 
 abbrev text : Bor (List ℕ) → List ℕ
@@ -28,7 +29,7 @@ pub loop-place-preserved : goal.loop-place-preserved
 loop-place-preserved c =
     let items : List Config = c.slice-config-items.result.now in
     let adds : AddsName (map text c.loop-place.names.keys) (map text c.add_hostname.new.names.keys) c.config-item.result.hostname None =
-    subst (λ (o : Option ℕ). AddsName (map text c.loop-place.names.keys) (map text c.add_hostname.new.names.keys) c.config-item.result.hostname o) c.in-None.is c.in_ok-line.ensures in
+    subst (λ (o : Option ℕ). AddsName (map text c.loop-place.names.keys) (map text c.add_hostname.new.names.keys) c.config-item.result.hostname o) (never_some c.in_ok-line.field-0 (λ line. c.in_default.not-Some line)) c.in_ok-line.ensures in
     record {
       names = names_more items c.loop-place.place c.config-item.result c.loop-place-test.true c.config-item.is (map text c.loop-place.names.keys)
           (map text c.add_hostname.new.names.keys) c.loop-place.invariant.names c.loop-place.invariant.named adds;
