@@ -1,13 +1,13 @@
-//! Calls of the crates below, with ample memory: proofs and searches, stores and sinks, the texts of
-//! edits. They only test.
-//! They are here and not in the crates whose calls they run, so that proving them safe reads those
-//! contracts and does not prove their functions again.
+//! Calls that `arcv` does not make, each once, with ample memory, over two routers and their
+//! repairs as they were worked out by hand; a search that drops lemmas; the disk and standard
+//! output. They only test. They are here and not in the crates whose calls they run, so that
+//! proving them safe reads those contracts and does not prove their functions again.
 #![tactic(auto)]
 
 #[cfg(test)]
-mod certificates;
+mod pairs;
 #[cfg(test)]
-mod cores;
+mod repairs;
 #[cfg(test)]
 mod searches;
 #[cfg(test)]

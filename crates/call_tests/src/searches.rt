@@ -1,3 +1,5 @@
+//! A search over the eight clauses with three literals over three variables, and one clause more,
+//! which its log adds 1,499 times again.
 ghost use Rattle.clean_logs.specs.CleanLogs.{additions};
 ghost use Rattle.proof_check.specs.Logs.{adds_empty};
 ghost use Rattle.sat_core.specs.Trails.{IsOf};
@@ -120,31 +122,17 @@ fn core_and_log(alloc: Global) -> Result<(Core, Log), Memory>
     Ok((core, log))
 }
 
-/// How many ids the step drops, where each of them is one from 10 to 509.
-fn old_drops(step: &Step) -> Option<u32> {
-    let Step::Drop { ids } = step else {
-        return None;
-    };
-    for id in ids.slice() {
-        if *id < 10 || *id > 509 {
-            return None;
-        }
-    }
-    Some(ids.len())
-}
-
-/// Whether the steps add a clause that is not empty, and then drop from 1 to 250 clauses with ids
-/// from 10 to 509.
+/// Whether the steps add a clause that is not empty as their 1,500th, and then drop from 1 to 250
+/// clauses with ids from 10 to 509.
 fn drops_old(steps: &[Step]) -> bool {
-    let adds = match steps.get(1499) {
-        Some(Step::Add { lits, .. }) => !lits.is_empty(),
+    match (steps.get(1499), steps.get(1500)) {
+        (Some(Step::Add { lits, .. }), Some(Step::Drop { ids })) => {
+            let mut old = ids.slice().iter();
+            let is_right = old.all(|id| *id >= 10 && *id <= 509);
+            !lits.is_empty() && is_right && ids.len() >= 1 && ids.len() <= 250
+        }
         _ => false,
-    };
-    let dropped = match steps.get(1500) {
-        Some(step) => old_drops(step).unwrap_or(0),
-        None => 0,
-    };
-    adds && dropped >= 1 && dropped <= 250
+    }
 }
 
 /// Whether each step of a log is accepted.
@@ -158,20 +146,17 @@ fn is_accepted(alloc: Global, formula: &Formula, log: &Log) -> Result<bool, Memo
     Ok(true)
 }
 
+/// A search goes on where there is no memory to compact its clauses, so that only the call itself
+/// shows that there is.
 #[test]
 fn lemmas_are_dropped_after_1500(rt: HostRuntime) -> Result<(), Fail> {
     let alloc = rt.alloc();
-    let Ok(formula) = formula(alloc) else {
-        return Err(Fail::from("memory"));
-    };
-    let Ok((mut core, mut log)) = core_and_log(alloc) else {
-        return Err(Fail::from("memory"));
-    };
-    let Ok(found) = search(alloc, &mut core, &mut log, 2000) else {
-        return Err(Fail::from("memory"));
-    };
+    let formula = formula(alloc)?;
+    let (mut core, mut log) = core_and_log(alloc)?;
+    let found = search(alloc, &mut core, &mut log, 2000)?;
     assert!(rt; matches!(found, Found::Refuted));
     assert!(rt; drops_old(log.steps.slice()));
-    assert_eq!(rt; is_accepted(alloc, &formula, &log).unwrap_or(false), true);
+    assert!(rt; is_accepted(alloc, &formula, &log)?);
+    core.compact()?;
     Ok(())
 }

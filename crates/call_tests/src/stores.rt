@@ -1,47 +1,30 @@
-//! What each call gives, with ample memory.
+//! Stores and sinks: those that never fail, and those of the system.
 
 use arc_base::{List, Name};
 use arc_outside::{
     DiskStore, Fault, Operation, ReadAll, Sink, StdSink, Store, SureSink, SureStore, read_all,
 };
-use std::alloc::Global;
 use std::test::Fail;
 use std::time::SystemTime;
 use std::{env, fs};
 
-const HELLO: &[u8] = b"hello";
-
-const WRITTEN: &[u8] = b"written";
-
-const MISSING: Option<ReadAll> = Some(ReadAll::Fault(Fault::Missing));
-
-const FAILED: Option<ReadAll> = Some(ReadAll::Fault(Fault::Failed));
-
-const TOO_LONG: Option<ReadAll> = Some(ReadAll::TooLong);
-
-fn files(alloc: Global) -> Result<List<(Name, Name)>, Fail> {
-    let mut files = List::make(alloc);
-    files.push((Name::make(alloc, b"a")?, Name::make(alloc, b"old")?))?;
-    files.push((Name::make(alloc, b"a")?, Name::make(alloc, b"hello")?))?;
-    Ok(files)
-}
-
-// No clause says that memory is had: with enough of it each call that takes some answers.
 #[test]
-fn allocating_calls_answer(rt: HostRuntime) -> Result<(), Fail> {
+fn sure_calls_answer(rt: HostRuntime) -> Result<(), Fail> {
     let alloc = rt.alloc();
     let name = Name::make(alloc, b"a")?;
-    let mut sure = SureStore::make(alloc, files(alloc)?)?;
-    assert_eq!(rt; read_all(alloc, &mut sure, &name, 5)?.as_slice(), HELLO);
-    sure.write_whole(&name, b"new")?;
-    assert_eq!(rt; sure.bytes(&name), Some(b"new".as_slice()));
+    let mut store = SureStore::make(alloc, List::make(alloc))?;
+    store.write_whole(&name, b"new")?;
+    assert_eq!(rt;
+        read_all(alloc, &mut store, &name, 3)?.as_slice(),
+        b"new".as_slice()
+    );
     let mut out = SureSink::make(alloc);
     assert_eq!(rt; out.put(b"text")?, 4);
     assert_eq!(rt; out.bytes(), b"text".as_slice());
     Ok(())
 }
 
-// The trusted edge, over a file of its own in the temporary folder.
+/// Over a file of its own in the temporary folder.
 #[test]
 fn disk_and_standard_output(rt: HostRuntime) -> Result<(), Fail> {
     let alloc = rt.alloc();
@@ -52,22 +35,26 @@ fn disk_and_standard_output(rt: HostRuntime) -> Result<(), Fail> {
     let path = place.as_path().as_str();
     let name = Name::make(alloc, path.as_bytes())?;
     let mut store = DiskStore::make(rt, alloc);
-    assert_eq!(rt; read_all(alloc, &mut store, &name, 9).err(), MISSING);
+    let missing = read_all(alloc, &mut store, &name, 9);
+    assert_eq!(rt; missing.err(), Some(ReadAll::Fault(Fault::Missing)));
     store.write_whole(&name, b"written")?;
-    assert_eq!(rt; read_all(alloc, &mut store, &name, 7)?.as_slice(), WRITTEN);
-    assert_eq!(rt; read_all(alloc, &mut store, &name, 6).err(), TOO_LONG);
+    let whole = read_all(alloc, &mut store, &name, 7)?;
+    assert_eq!(rt; whole.as_slice(), b"written".as_slice());
+    let long = read_all(alloc, &mut store, &name, 6);
+    assert_eq!(rt; long.err(), Some(ReadAll::TooLong));
+    // A file that was read is not written over, whatever its name.
     let other = Name::make(alloc, format!(in alloc; "/.{path}")?.as_bytes())?;
-    let lost = store.write_whole(&other, b"lost");
-    assert_eq!(rt; lost.err(), Some(Fault::Failed));
+    assert_eq!(rt;
+        store.write_whole(&other, b"lost").err(),
+        Some(Fault::Failed)
+    );
     let read_as = store.failure().and_then(|failure| failure.read_as.as_ref());
     assert_eq!(rt; read_as.map(Name::bytes), Some(path.as_bytes()));
-    assert_eq!(rt; read_all(alloc, &mut store, &name, 99)?.as_slice(), WRITTEN);
-    let no_path = Name::make(alloc, b"\xff")?;
-    assert_eq!(rt; read_all(alloc, &mut store, &no_path, 9).err(), FAILED);
+    let no_path = read_all(alloc, &mut store, &Name::make(alloc, b"\xff")?, 9);
+    assert_eq!(rt; no_path.err(), Some(ReadAll::Fault(Fault::Failed)));
     let operation = store.failure().map(|failure| failure.operation);
     assert_eq!(rt; operation, Some(Operation::Reading));
     fs::remove_file(&rt, path)?;
-    let mut out = StdSink::make(rt);
-    assert_eq!(rt; out.put(b"put\n")?, 4);
+    assert_eq!(rt; StdSink::make(rt).put(b"put\n")?, 4);
     Ok(())
 }

@@ -1,0 +1,134 @@
+//! The edits of the two routers, their repair formula, their cheapest repair and a report on them,
+//! as they were worked out by hand.
+
+use crate::pairs::two_routers;
+use arc_repair::{Answer, Check, Made, repair};
+use cnf_types::Clause;
+use edit_list::{Claim, edits};
+use policy_encode::encode;
+use policy_report::{edit_line, edit_text};
+use report_check::check_report;
+use std::alloc::Global;
+use std::test::Fail;
+
+/// The sessions of both ends of the link, and new inbound lists at the four interfaces.
+const EDITS: &str = "\
+Some(0) edit session r1 GigabitEthernet0/1
+Some(1) edit session r2 GigabitEthernet0/1
+Some(2) edit packet r1 interface GigabitEthernet0/0 10.1.0.0/24 10.2.0.0/24
+Some(3) edit packet r1 interface GigabitEthernet0/1 10.1.0.0/24 10.2.0.0/24
+Some(4) edit packet r2 interface GigabitEthernet0/0 10.1.0.0/24 10.2.0.0/24
+Some(5) edit packet r2 interface GigabitEthernet0/1 10.1.0.0/24 10.2.0.0/24
+";
+
+/// All edits, a line each: which one the text of each names, and that text.
+fn edit_texts(alloc: Global) -> Result<Vec<u8>, Fail> {
+    let pair = two_routers(alloc)?;
+    let list = edits(alloc, &pair.net, &pair.doc)?;
+    let mut texts = Vec::new(alloc);
+    for at in 0..list.len() {
+        let text = edit_text(alloc, &pair.net, &list, at)?;
+        let named = edit_line(alloc, &pair.net, &list, &text)?;
+        texts.extend_from_slice(format!(in alloc; "{named:?} ")?.as_bytes())?;
+        texts.extend_from_slice(&text)?;
+        texts.push(b'\n')?;
+    }
+    Ok(texts)
+}
+
+#[test]
+fn edits_are_listed_and_named(rt: HostRuntime) -> Result<(), Fail> {
+    assert_eq!(rt; edit_texts(rt.alloc())?.as_slice(), EDITS.as_bytes());
+    Ok(())
+}
+
+/// Variables 1 to 6 are the edits; 7 and 8 say which routers the packets are kept on, and 9 to 14
+/// the price up to each edit, which 14 says is above 0.
+const FORMULA: &str = "\
+14 variables, tops List { items: [Lit { code: 28 }] }
+3 7
+-7 1 2 6 8
+-8 1 2 4 7
+-8
+-1 9
+-9 10
+-2 10
+-10 11
+-3 11
+-11 12
+-4 12
+-12 13
+-5 13
+-13 14
+-6 14";
+
+/// The clause as DIMACS writes it, without its 0.
+fn line(alloc: Global, clause: &Clause) -> Result<String, Fail> {
+    let mut text = String::from_str(alloc, "\n")?;
+    for lit in clause.lits.slice() {
+        let blank = if text.len() == 1 { "" } else { " " };
+        let sign = if lit.positive() { "" } else { "-" };
+        text.push_str(&format!(in alloc; "{blank}{sign}{}", lit.var())?)?;
+    }
+    Ok(text)
+}
+
+/// The repair formula for price 0 alone.
+fn formula_text(alloc: Global) -> Result<String, Fail> {
+    let pair = two_routers(alloc)?;
+    let list = edits(alloc, &pair.net, &pair.doc)?;
+    let it = encode(alloc, &pair.net, &pair.doc, &list, 0)?;
+    let mut text = format!(in alloc; "{} variables, tops {:?}", it.formula.vars, it.tops)?;
+    for clause in it.formula.clauses.slice() {
+        text.push_str(&line(alloc, clause)?)?;
+    }
+    Ok(text)
+}
+
+#[test]
+fn the_formula_has_these_clauses(rt: HostRuntime) -> Result<(), Fail> {
+    assert_eq!(rt; formula_text(rt.alloc())?.as_str(), FORMULA);
+    Ok(())
+}
+
+/// The price of the cheapest repair, and whether it is accepted with its log.
+fn repaired(alloc: Global) -> Result<(u32, bool), Fail> {
+    let pair = two_routers(alloc)?;
+    let Answer::Done(claim, log) = repair(alloc, &pair.net, &pair.doc, 32, 50_000)? else {
+        return Err(Fail::from("no answer"));
+    };
+    let Claim::Repaired { price, .. } = &claim else {
+        return Err(Fail::from("no repair"));
+    };
+    let Made::Good(mut check) = Check::make(alloc, &pair.net, &pair.doc, &claim)? else {
+        return Err(Fail::from("a wrong claim"));
+    };
+    for step in log.steps.slice() {
+        if check.step(step).is_err() {
+            return Ok((*price, false));
+        }
+    }
+    Ok((*price, check.accepted()))
+}
+
+/// A list at one interface is enough, or a session that is turned.
+#[test]
+fn the_cheapest_repair_is_accepted(rt: HostRuntime) -> Result<(), Fail> {
+    assert_eq!(rt; repaired(rt.alloc())?, (1, true));
+    Ok(())
+}
+
+/// What a text is judged to as a report.
+fn judged(alloc: Global, text: &str) -> Result<String, Fail> {
+    let pair = two_routers(alloc)?;
+    let outcome = check_report(alloc, &pair.net, &pair.doc, text.as_bytes())?;
+    Ok(format!(in alloc; "{outcome:?}")?)
+}
+
+/// Packets are delivered over the link.
+#[test]
+fn a_report_is_judged(rt: HostRuntime) -> Result<(), Fail> {
+    let text = "arc-report 1\n1 blocked no 1\nwalk 10.1.0.0/24 10.2.0.0/24 1\nend\n";
+    assert_eq!(rt; judged(rt.alloc(), text)?.as_str(), "Accepted");
+    Ok(())
+}
