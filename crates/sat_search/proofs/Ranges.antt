@@ -1,5 +1,5 @@
 -- Lists of literals in range, as they are pushed and turned round.
-use Rattle.std.proofs.Common.{◌≡◌, [], Bool, true, false, Option, Some, None, unwrap_or}
+use Rattle.std.proofs.Common.{◌≡◌, Bool, true, false, Option, Some, None, unwrap_or}
 use Rattle.std.proofs.lemmas.Bool.{false_from_ne_true}
 use Rattle.cnf_types.specs.declared.literal.Lit.{Lit}
 use Rattle.sat_core.specs.Trails.{IsValue, is_on}

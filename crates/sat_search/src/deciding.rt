@@ -1,5 +1,4 @@
-//! Which arcs of the pair are routed to a prefix, where r1 asks a route list that denies another
-//! prefix, or none.
+//! Decisions, each followed by propagation, until a clause is falsified or all variables are set.
 ghost use Rattle.cnf_types.specs.Literals.{literal};
 ghost use Rattle.sat_core.specs.Rest.{IsAtRest};
 ghost use Rattle.sat_core.specs.States.{IsSound};
@@ -120,10 +119,7 @@ fn begin(core: &mut Core, first: &[Lit]) -> Option<Held>
     if let Some(held) = core.propagate() {
         return Some(held);
     }
-    let Some(lit) = pick(core, first) else {
-        return None;
-    };
-    let negation = lit.negated();
+    let negation = pick(core, first)?.negated();
     if core.value(negation).is_some() {
         return None;
     }

@@ -18,10 +18,7 @@ fn is_true(core: &Core, lit: Lit) -> bool
     requires range { IsOf core.now.vars lit }
     ensures { result ≡ is_on core.now.trail lit }
 {
-    match core.value(lit) {
-        Some(value) => value,
-        None => false,
-    }
+    core.value(lit).unwrap_or(false)
 }
 
 /// The values of all variables, which are set, while propagation is complete.
