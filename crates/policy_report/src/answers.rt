@@ -1,5 +1,5 @@
 //! The second line of a repair, which says what is answered.
-ghost use Rattle.policy_report.specs.Readings.{answer_with, answer_of};
+ghost use Rattle.policy_report.specs.Readings.{answer_of};
 ghost use Rattle.std.specs.Prelude.{◌≡◌, map};
 
 use crate::reading::{after_word, count_of};
@@ -13,19 +13,6 @@ pub(crate) enum Answer {
     NoRepair(u32),
     /// That the budget was used up.
     Budget,
-}
-
-/// An answer of two numbers.
-fn answer_with(word: &[u8], number: u32, bound: u32) -> Option<Answer>
-    ensures { result ≡ answer_with word.now number bound }
-{
-    if word == b"repaired".as_slice() {
-        Some(Answer::Repaired(number, bound))
-    } else if word == b"budget".as_slice() {
-        Some(Answer::Budget)
-    } else {
-        None
-    }
 }
 
 /// `answer repaired PRICE BOUND`, `answer none BOUND` or `answer budget LIMIT BOUND`
@@ -44,7 +31,13 @@ pub(crate) fn answer_of(words: &[&[u8]]) -> Option<Answer>
         [word, number, bound] => {
             let number = count_of(number)?;
             let bound = count_of(bound)?;
-            answer_with(word, number, bound)
+            if *word == b"repaired".as_slice() {
+                Some(Answer::Repaired(number, bound))
+            } else if *word == b"budget".as_slice() {
+                Some(Answer::Budget)
+            } else {
+                None
+            }
         }
         _ => None,
     }

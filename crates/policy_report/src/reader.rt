@@ -2,10 +2,10 @@
 ghost use Rattle.arc_base.specs.Words.{words};
 ghost use Rattle.policy_report.specs.Readings.{answer_of, line_words};
 ghost use Rattle.policy_report.specs.Steps.{standing, start, next_line, fails, goes, goes_on};
-ghost use Rattle.policy_report.specs.Steps.{is_edit, is_of, is_yes, may_stand, closed, logs, head};
-ghost use Rattle.policy_report.specs.Steps.{answered, edited, editing, logging, proving, between};
+ghost use Rattle.policy_report.specs.Steps.{is_edit, is_of, may_stand, closed, logs, head};
+ghost use Rattle.policy_report.specs.Steps.{answered, editing, proving, between};
 ghost use Rattle.policy_report.specs.Steps.{within, step, IsRead, IsSurelyRead};
-ghost use Rattle.std.specs.Prelude.{◌≡◌, ◌<◌, [], IfSome, if◌then◌else◌};
+ghost use Rattle.std.specs.Prelude.{◌≡◌, [], if◌then◌else◌};
 
 use crate::answers::{Answer, answer_of};
 use crate::drafts::{Asked, Block, Draft, Heading};
@@ -54,23 +54,14 @@ fn is_of(policies: &[Policy], which: u64, heading: &Heading) -> bool
     }
 }
 
-/// Whether a block that begins so is a yes.
-fn is_yes(block: &Block) -> bool
-    ensures { result ≡ is_yes block.now }
-{
-    match block {
-        Block::Whole(verdict) => matches!(verdict, Verdict::Closed(_) | Verdict::Paths(_)),
-        Block::Open(draft) => matches!(draft, Draft::Sides(_, _) | Draft::Paths(_, _)),
-    }
-}
-
-/// Whether the block is allowed in the text.
+/// Whether the block is allowed in the text: in a repair only a yes is.
 fn may_stand(text: Text, block: &Block) -> bool
     ensures { result ≡ may_stand text block.now }
 {
-    match text {
-        Text::Report => true,
-        Text::Repair => is_yes(block),
+    match (text, block) {
+        (Text::Report, _) => true,
+        (_, Block::Whole(verdict)) => matches!(verdict, Verdict::Closed(_) | Verdict::Paths(_)),
+        (_, Block::Open(draft)) => matches!(draft, Draft::Sides(_, _) | Draft::Paths(_, _)),
     }
 }
 
@@ -144,11 +135,16 @@ impl Reader {
         self.fail(CertKind::Form)
     }
 
-    /// Goes on after the answer of a repair.
-    fn go_answered(&mut self, answer: Option<Answer>) -> Result<Got, CertFault>
-        ensures { (standing self.new, result) ≡ answered self.old.line answer }
+    /// Reads the answer of a repair.
+    fn read_answer(&mut self, line: &[u8]) -> Result<Got, CertFault>
+        ensures { IsRead (answered self.old.line (answer_of (line_words line.now))) self.old.line
+            (standing self.new) result }
     {
-        match answer {
+        let words = match line_words(self.alloc, line) {
+            Ok(words) => words,
+            Err(_) => return self.fail(CertKind::Memory),
+        };
+        match answer_of(words.as_slice()) {
             Some(Answer::Repaired(price, bound)) => {
                 self.go(Stage::Edits(0), Got::Head(CertForm::Repaired(price, bound)))
             }
@@ -157,28 +153,6 @@ impl Reader {
             }
             Some(Answer::Budget) => self.fail(CertKind::NoClaim),
             None => self.fail(CertKind::Form),
-        }
-    }
-
-    /// Reads the answer of a repair.
-    fn read_answer(&mut self, line: &[u8]) -> Result<Got, CertFault>
-        ensures { IsRead (answered self.old.line (answer_of (line_words line.now))) self.old.line
-            (standing self.new) result }
-    {
-        match line_words(self.alloc, line) {
-            Ok(words) => self.go_answered(answer_of(words.as_slice())),
-            Err(_) => self.fail(CertKind::Memory),
-        }
-    }
-
-    /// Goes on after the line of an edit.
-    fn go_edited(&mut self, place: Option<u32>) -> Result<Got, CertFault>
-        requires { IfSome place (λ at. at < 4294967295) }
-        ensures { (standing self.new, result) ≡ edited self.old.line place }
-    {
-        match place {
-            Some(at) => self.go(Stage::Edits(at + 1), Got::Edit(at)),
-            None => self.fail(CertKind::Edit),
         }
     }
 
@@ -198,36 +172,21 @@ impl Reader {
             return self.read_between(doc, Text::Repair, 0, line);
         }
         match edit_from(self.alloc, net, edits, next, line) {
-            Ok(place) => self.go_edited(place),
+            Ok(Some(at)) => self.go(Stage::Edits(at + 1), Got::Edit(at)),
+            Ok(None) => self.fail(CertKind::Edit),
             Err(Memory) => self.fail(CertKind::Memory),
         }
     }
 
-    /// Reads the line `end` between two blocks.
-    fn read_end(&mut self, text: Text, are_all_read: bool) -> Result<Got, CertFault>
-        ensures { (standing self.new, result) ≡ (if are_all_read then closed self.old.line text
-            else fails self.old.line CertKind.Policy) }
+    /// Reads what closes the blocks: the line `end`, or else the line `log`.
+    fn read_closing(&mut self, text: Text, is_end: bool) -> Result<Got, CertFault>
+        ensures { (standing self.new, result)
+            ≡ (if is_end then closed self.old.line text else logs self.old.line text) }
     {
-        if !are_all_read {
-            return self.fail(CertKind::Policy);
-        }
-        match text {
-            Text::Report => self.go(Stage::Ended, Got::End),
-            Text::Repair => self.fail(CertKind::Form),
-        }
-    }
-
-    /// Reads the line `log` between two blocks.
-    fn read_log(&mut self, text: Text, are_all_read: bool) -> Result<Got, CertFault>
-        ensures { (standing self.new, result) ≡ (if are_all_read then logs self.old.line text
-            else fails self.old.line CertKind.Policy) }
-    {
-        if !are_all_read {
-            return self.fail(CertKind::Policy);
-        }
-        match text {
-            Text::Report => self.fail(CertKind::Form),
-            Text::Repair => self.go(Stage::Steps, Got::More),
+        match (text, is_end) {
+            (Text::Report, true) => self.go(Stage::Ended, Got::End),
+            (Text::Repair, false) => self.go(Stage::Steps, Got::More),
+            (_, _) => self.fail(CertKind::Form),
         }
     }
 
@@ -242,12 +201,12 @@ impl Reader {
         ensures { IsRead (between doc.now self.old.line text which line.now) self.old.line
             (standing self.new) result }
     {
-        let are_all_read = which >= u64::from(doc.policies.len());
-        if line == b"end".as_slice() {
-            return self.read_end(text, are_all_read);
-        }
-        if line == b"log".as_slice() {
-            return self.read_log(text, are_all_read);
+        let is_end = line == b"end".as_slice();
+        if is_end || line == b"log".as_slice() {
+            if which < u64::from(doc.policies.len()) {
+                return self.fail(CertKind::Policy);
+            }
+            return self.read_closing(text, is_end);
         }
         let words = match line_words(self.alloc, line) {
             Ok(words) => words,
@@ -282,16 +241,6 @@ impl Reader {
             Ok(None) => self.fail(CertKind::Form),
             Err(Memory) => self.fail(CertKind::Memory),
         }
-    }
-
-    /// Reads the line after the answer that there is no repair.
-    fn read_logging(&mut self, line: &[u8]) -> Result<Got, CertFault>
-        ensures { (standing self.new, result) ≡ logging self.old.line line.now }
-    {
-        if line == b"log".as_slice() {
-            return self.go(Stage::Steps, Got::More);
-        }
-        self.fail(CertKind::Form)
     }
 
     /// Reads a line of the proof log, or the end.
@@ -336,7 +285,8 @@ impl Reader {
             Stage::Within(whose, which, draft) => {
                 self.read_within(net, whose, which, draft, text)
             }
-            Stage::Log => self.read_logging(text),
+            Stage::Log if text == b"log".as_slice() => self.go(Stage::Steps, Got::More),
+            Stage::Log => self.fail(CertKind::Form),
             Stage::Steps => self.read_proving(text),
             Stage::Ended => self.fail(CertKind::NoEnd),
             Stage::Failed(fault) => {

@@ -1,7 +1,7 @@
 //! The text of a report, in time linear in its bytes.
 ghost use Rattle.net_model.specs.declared.rows.Network.{Network};
 ghost use Rattle.policy_report.specs.Lines.{after_spaces};
-ghost use Rattle.policy_report.specs.Reports.{kind_word, answer_word, answer_line, block_text};
+ghost use Rattle.policy_report.specs.Reports.{kind_word, answer_word, answer_line};
 ghost use Rattle.policy_report.specs.Reports.{blocks_text, report_text};
 ghost use Rattle.std.specs.Prelude.{◌≡◌, ◌++◌, ◌∷◌, [], length, IfOk, OnOk};
 
@@ -47,24 +47,11 @@ pub(crate) fn push_blocks(
         ≡ text.old.items ++ blocks_text 1 net.now policies.now verdicts.now) }
 {
     for (place, policy) in policies.iter().enumerate() {
-        push_block(alloc, text, place as u64 + 1, net, policy, &verdicts[place])?;
+        let verdict = &verdicts[place];
+        push_answer(alloc, text, place as u64 + 1, policy, verdict)?;
+        push_witness(alloc, text, net, verdict)?;
     }
     Ok(())
-}
-
-fn push_block(
-    alloc: Global,
-    text: &mut Vec<u8>,
-    number: u64,
-    net: &Network,
-    policy: &Policy,
-    verdict: &Verdict,
-) -> Result<(), Memory>
-    ensures { OnOk result (text.new.items
-        ≡ text.old.items ++ block_text number net.now policy.now verdict.now) }
-{
-    push_answer(alloc, text, number, policy, verdict)?;
-    push_witness(alloc, text, net, verdict)
 }
 
 fn push_answer(

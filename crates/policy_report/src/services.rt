@@ -2,11 +2,11 @@
 //! P is the protocol (0 to 255, as IANA assigns them) and N the destination port (0 to 65,535). The
 //! service 0 and the range of all services have no word.
 ghost use Rattle.policy_report.specs.Lines.{after_spaces};
-ghost use Rattle.policy_report.specs.ServiceWords.{service_text, service_word, range_word};
+ghost use Rattle.policy_report.specs.ServiceWords.{service_text};
 ghost use Rattle.policy_report.specs.ServiceWords.{is_whole, service_words, range_words};
 ghost use Rattle.policy_report.specs.ServiceWords.{service_of, after_colon, service_named};
 ghost use Rattle.policy_report.specs.ServiceWords.{range_from, range_named};
-ghost use Rattle.std.specs.Prelude.{◌≡◌, ◌<◌, ◌^◌, ◌++◌, ◌∷◌, option_map, IfSome, OnOk};
+ghost use Rattle.std.specs.Prelude.{◌≡◌, ◌<◌, ◌^◌, ◌++◌, option_map, IfSome, OnOk};
 
 use arc_base::{Memory, cut_at, push_number, read_number};
 use net_model::Service;
@@ -24,24 +24,6 @@ fn push_service(alloc: Global, text: &mut Vec<u8>, service: u32) -> Result<(), M
     push_number(alloc, text, u64::from(service % PORTS))
 }
 
-/// The word of a service.
-fn push_service_word(alloc: Global, text: &mut Vec<u8>, service: u32) -> Result<(), Memory>
-    ensures { OnOk result (text.new.items ≡ text.old.items ++ 32 ∷ service_word service) }
-{
-    text.extend_from_slice(b" service:")?;
-    push_service(alloc, text, service)
-}
-
-/// The word of a range of services.
-fn push_range_word(alloc: Global, text: &mut Vec<u8>, range: &Service) -> Result<(), Memory>
-    ensures { OnOk result (text.new.items ≡ text.old.items ++ 32 ∷ range_word range.now) }
-{
-    text.extend_from_slice(b" service:")?;
-    push_service(alloc, text, range.low)?;
-    text.push(b'-')?;
-    push_service(alloc, text, range.high)
-}
-
 /// A packet's service, if it is not 0.
 pub(crate) fn push_packet_service(
     alloc: Global,
@@ -54,7 +36,8 @@ pub(crate) fn push_packet_service(
     if service == 0 {
         return Ok(());
     }
-    push_service_word(alloc, text, service)
+    text.extend_from_slice(b" service:")?;
+    push_service(alloc, text, service)
 }
 
 /// Whether these are all services.
@@ -76,7 +59,10 @@ pub(crate) fn push_class_services(
     if is_whole(range) {
         return Ok(());
     }
-    push_range_word(alloc, text, range)
+    text.extend_from_slice(b" service:")?;
+    push_service(alloc, text, range.low)?;
+    text.push(b'-')?;
+    push_service(alloc, text, range.high)
 }
 
 /// Parses a service.
