@@ -1,5 +1,5 @@
 -- How long a report can get.
-use Rattle.std.specs.Prelude.{◌≤◌, ◌^◌, List, length, All}
+use Rattle.std.specs.Prelude.{◌≤◌, List, length, All}
 use Rattle.std.specs.List.{AllZip}
 use Rattle.arc_base.specs.declared.limits.TheConstants.{LINK_LIMIT, POLICY_LIMIT, CLASS_LIMIT}
 use Rattle.arc_base.specs.declared.limits.TheConstants.{PROOF_LIMIT}

@@ -3,13 +3,13 @@ ghost use Rattle.policy_report.specs.Edits.{router_name, owner_name, face_name, 
 ghost use Rattle.policy_report.specs.Edits.{route_list_words, packet_list_words, edit_words};
 ghost use Rattle.policy_report.specs.Edits.{edit_text, edit_of, edit_from, IsTextAt};
 ghost use Rattle.policy_report.specs.Lines.{after_spaces};
-ghost use Rattle.std.specs.Prelude.{◌≡◌, ◌<◌, ◌++◌, ◌∷◌, [], bytes_eq, codes, length, IfOk, IfSome};
+ghost use Rattle.std.specs.Prelude.{◌≡◌, ◌<◌, ◌++◌, ◌∷◌, [], length, IfOk, IfSome};
 ghost use Rattle.std.specs.Prelude.{OnOk};
 
 use crate::words::{push_address_word, push_class, push_prefix_word, push_word};
-use arc_base::{Face, List, ListId, Memory, Prefix, Router};
+use arc_base::{Face, List, ListId, Memory, Router};
 use edit_list::Edit;
-use net_model::{Class, Network};
+use net_model::Network;
 use std::alloc::Global;
 
 /// The name of the router at this place.
@@ -94,70 +94,6 @@ fn push_packet_list(text: &mut Vec<u8>, net: &Network, list: ListId) -> Result<(
     }
 }
 
-/// The router of an interface, and the interface.
-fn push_face(text: &mut Vec<u8>, net: &Network, face: Face) -> Result<(), Memory>
-    ensures { OnOk result (text.new.items ≡ text.old.items ++
-        after_spaces (owner_name net.now face ∷ codes "interface" ∷ face_name net.now face ∷ [])) }
-{
-    push_words(
-        text,
-        owner_name(net, face),
-        b"interface",
-        face_name(net, face),
-    )
-}
-
-/// An entry of a route list.
-fn push_route_entry(
-    alloc: Global,
-    text: &mut Vec<u8>,
-    net: &Network,
-    list: ListId,
-    prefix: &Prefix,
-) -> Result<(), Memory>
-    ensures { OnOk result (text.new.items ≡ text.old.items ++
-        after_spaces (edit_words net.now (Edit.RouteList list prefix.now))) }
-{
-    push_word(text, b"route")?;
-    push_route_list(text, net, list)?;
-    push_prefix_word(alloc, text, prefix)?;
-    Ok(())
-}
-
-/// An entry of a packet list.
-fn push_packet_entry(
-    alloc: Global,
-    text: &mut Vec<u8>,
-    net: &Network,
-    list: ListId,
-    class: &Class,
-) -> Result<(), Memory>
-    ensures { OnOk result (text.new.items ≡ text.old.items ++
-        after_spaces (edit_words net.now (Edit.PacketList list class.now))) }
-{
-    push_word(text, b"packet")?;
-    push_packet_list(text, net, list)?;
-    push_class(alloc, text, class)?;
-    Ok(())
-}
-
-/// An entry of a new packet list.
-fn push_new_packet_entry(
-    alloc: Global,
-    text: &mut Vec<u8>,
-    net: &Network,
-    face: Face,
-    class: &Class,
-) -> Result<(), Memory>
-    ensures { OnOk result (text.new.items ≡ text.old.items ++
-        after_spaces (edit_words net.now (Edit.PacketNew face class.now))) }
-{
-    push_word(text, b"packet")?;
-    push_face(text, net, face)?;
-    push_class(alloc, text, class)?;
-    Ok(())
-}
-
 /// What the text of an edit says after its first word.
 fn push_edit_words(
     alloc: Global,
@@ -170,14 +106,15 @@ fn push_edit_words(
 {
     match edit {
         Edit::Session(face) => {
-            push_words(
-                text,
-                b"session",
-                owner_name(net, *face),
-                face_name(net, *face),
-            )
+            push_word(text, b"session")?;
+            push_word(text, owner_name(net, *face))?;
+            push_word(text, face_name(net, *face))
         }
-        Edit::RouteList(list, prefix) => push_route_entry(alloc, text, net, *list, prefix),
+        Edit::RouteList(list, prefix) => {
+            push_word(text, b"route")?;
+            push_route_list(text, net, *list)?;
+            push_prefix_word(alloc, text, prefix)
+        }
         Edit::RouteNew(face, prefix) => {
             push_word(text, b"route")?;
             push_word(text, owner_name(net, *face))?;
@@ -185,8 +122,18 @@ fn push_edit_words(
             push_neighbor(alloc, text, net, *face)?;
             push_prefix_word(alloc, text, prefix)
         }
-        Edit::PacketList(list, class) => push_packet_entry(alloc, text, net, *list, class),
-        Edit::PacketNew(face, class) => push_new_packet_entry(alloc, text, net, *face, class),
+        Edit::PacketList(list, class) => {
+            push_word(text, b"packet")?;
+            push_packet_list(text, net, *list)?;
+            push_class(alloc, text, class)
+        }
+        Edit::PacketNew(face, class) => {
+            push_word(text, b"packet")?;
+            push_word(text, owner_name(net, *face))?;
+            push_word(text, b"interface")?;
+            push_word(text, face_name(net, *face))?;
+            push_class(alloc, text, class)
+        }
     }
 }
 
@@ -223,15 +170,6 @@ pub fn edit_text(
     Ok(text)
 }
 
-/// Whether the edit has this text.
-fn has_text(alloc: Global, net: &Network, edit: &Edit, text: &[u8]) -> Result<bool, Memory>
-    ensures { IfOk result (λ has. has ≡ bytes_eq (edit_text net.now edit.now) text.now) }
-{
-    let mut written = Vec::new(alloc);
-    push_edit(alloc, &mut written, net, edit)?;
-    Ok(written.as_slice() == text)
-}
-
 /// The index of the first of these edits that has this text.
 fn find_edit(
     alloc: Global,
@@ -243,7 +181,9 @@ fn find_edit(
     ensures within { IfOk result (λ place. IfSome place (λ at. at < length edits.now)) }
 {
     for (place, edit) in edits.iter().enumerate() {
-        if has_text(alloc, net, edit, text)? {
+        let mut written = Vec::new(alloc);
+        push_edit(alloc, &mut written, net, edit)?;
+        if written.as_slice() == text {
             return Ok(Some(place));
         }
     }
