@@ -47,6 +47,17 @@ struct Reading<F: Drop> {
     ino: u64,
 }
 
+/// The files of the system: the one that is being read, the pipes that gave bytes and the plain
+/// files that were read.
+#[derive(Drop)]
+struct Disk<R: Files> {
+    rt: R,
+    alloc: Global,
+    reading: Option<Reading<R::File>>,
+    emptied: Vec<Name>,
+    seen: Vec<Seen>,
+}
+
 /// The files of the system, named by paths in UTF-8. A file to be read that is not there is Missing
 /// and raises the count of absences. Running out of memory is Memory, in the program for a name or
 /// in the system. Every other error is Failed and raises the count of faults, also a name that is
@@ -62,11 +73,7 @@ struct Reading<F: Drop> {
 /// Failed, and nothing is lost.
 #[derive(Drop)]
 pub struct DiskStore<R: Files> {
-    rt: R,
-    alloc: Global,
-    reading: Option<Reading<R::File>>,
-    emptied: Vec<Name>,
-    seen: Vec<Seen>,
+    disk: Disk<R>,
     failure: Option<Failure>,
     faults: u64,
     absences: u64,
@@ -80,12 +87,15 @@ impl<R: Files> DiskStore<R> {
         ensures absences { result.absences ≡ 0 }
         ensures taken { result.taken ≡ 0 }
     {
-        DiskStore {
+        let disk = Disk {
             rt,
             alloc,
             reading: None,
             emptied: Vec::new(alloc),
             seen: Vec::new(alloc),
+        };
+        DiskStore {
+            disk,
             failure: None,
             faults: 0,
             absences: 0,
@@ -122,92 +132,18 @@ fn failure_of(
     error: io::Error,
     read_as: Option<Name>,
 ) -> Option<Failure> {
-    match copy_of(alloc, name) {
-        Ok(name) => Some(Failure {
-            name,
-            operation,
-            error,
-            read_as,
-        }),
-        Err(_) => None,
-    }
-}
-
-/// Opens a file at a place. One that is read from its start need not know places, as a pipe does
-/// not.
-fn opened<R: Files>(
-    rt: &R,
-    alloc: Global,
-    name: &Name,
-    place: u64,
-) -> io::Result<Reading<R::File>> {
-    let mut file = fs::open(rt, path_of(name)?)?;
-    if place > 0 {
-        file.seek(SeekFrom::Start(place))?;
-    }
-    let found = file.metadata()?;
-    Ok(Reading {
-        name: copy_of(alloc, name)?,
-        file,
-        place,
-        is_plain: found.is_file(),
-        dev: found.dev(),
-        ino: found.ino(),
+    let name = copy_of(alloc, name).ok()?;
+    Some(Failure {
+        name,
+        operation,
+        error,
+        read_as,
     })
-}
-
-/// The open file, if its next byte is at this place, and else the file opened there. A drained pipe
-/// has nothing more to give.
-fn reading_at<R: Files>(
-    rt: &R,
-    alloc: Global,
-    open: Option<Reading<R::File>>,
-    emptied: &[Name],
-    name: &Name,
-    place: u64,
-) -> io::Result<Reading<R::File>> {
-    match open {
-        Some(open) if place > 0 && open.place == place && open.name.bytes() == name.bytes() => {
-            Ok(open)
-        }
-        _ if emptied.iter().any(|it| it.bytes() == name.bytes()) => Err(io::Error::new(
-            ErrorKind::NotSeekable,
-            "it has to be read twice, and a pipe can be read once",
-        )),
-        _ => opened(rt, alloc, name, place),
-    }
 }
 
 /// The file among these that has this device and inode.
 fn seen_at(seen: &[Seen], dev: u64, ino: u64) -> Option<&Seen> {
     seen.iter().find(|it| it.dev == dev && it.ino == ino)
-}
-
-/// Notes that a plain file was read.
-fn note<F: Drop>(alloc: Global, seen: &mut Vec<Seen>, reading: &Reading<F>) -> io::Result<()> {
-    let (dev, ino) = (reading.dev, reading.ino);
-    if reading.is_plain && seen_at(seen, dev, ino).is_none() {
-        let name = copy_of(alloc, &reading.name)?;
-        seen.push(Seen { name, dev, ino })?;
-    }
-    Ok(())
-}
-
-/// The name by which the plain file of this name was read, if it was.
-fn read_as<R: Files>(
-    rt: &R,
-    alloc: Global,
-    seen: &[Seen],
-    name: &Name,
-) -> io::Result<Option<Name>> {
-    let found = match fs::metadata(rt, path_of(name)?) {
-        Ok(found) if found.is_file() => found,
-        Ok(_) | Err(_) => return Ok(None),
-    };
-    match seen_at(seen, found.dev(), found.ino()) {
-        Some(it) => Ok(Some(copy_of(alloc, &it.name)?)),
-        None => Ok(None),
-    }
 }
 
 /// The error of a read that failed, and not because memory ran out.
@@ -218,41 +154,6 @@ fn failed_read(error: io::Error) -> io::Error
         return io::Error::new(ErrorKind::Other, "the system had no memory to read");
     }
     error
-}
-
-/// Reads on where the file is open at this place, and else opens it there. At its end it is closed.
-/// A file that is not a plain one and gave bytes is noted, since it does not give them again.
-fn read_on<R: Files>(
-    rt: &R,
-    alloc: Global,
-    reading: &mut Option<Reading<R::File>>,
-    emptied: &mut Vec<Name>,
-    seen: &mut Vec<Seen>,
-    name: &Name,
-    place: u64,
-    buf: &mut [u8],
-) -> io::Result<usize>
-    ensures bound { IfOk result (λ n. n ≤ length buf.new) }
-    ensures lent { IfErr result (λ e.
-        error_kind e ≡ ErrorKind.OutOfMemory → buf.new ≡ buf.old) }
-{
-    let mut current = reading_at(rt, alloc, reading.take(), emptied, name, place)?;
-    note(alloc, seen, &current)?;
-    let is_begun = place == 0 && !current.is_plain;
-    if is_begun {
-        emptied.push(copy_of(alloc, name)?)?;
-    }
-    let n = match current.file.read(buf) {
-        Ok(n) => n,
-        Err(error) => return Err(failed_read(error)),
-    };
-    if n > 0 {
-        current.place = current.place.saturating_add(n as u64);
-        *reading = Some(current);
-    } else if is_begun {
-        emptied.pop();
-    }
-    Ok(n)
 }
 
 /// Fills a new file with the permissions of the file that it will replace.
@@ -268,39 +169,122 @@ fn fill<F: Write + OpenFile>(
     file.sync_data()
 }
 
-/// Writes a file beside a name, and then gives it the name.
-fn write_beside<R: Files>(
-    rt: &R,
-    alloc: Global,
-    path: &str,
-    bytes: &[u8],
-    permissions: Option<Permissions>,
-) -> io::Result<()> {
-    let beside = format!(in alloc; "{path}.part")?;
-    let Ok(mut file) = File::create_new(rt, beside.as_str()) else {
-        return fs::write(rt, path, bytes);
-    };
-    let filled = fill(&mut file, bytes, permissions);
-    drop(file);
-    let written = match filled {
-        Ok(()) => fs::rename(rt, beside.as_str(), path),
-        Err(error) => Err(error),
-    };
-    if written.is_err() {
-        let _gone = fs::remove_file(rt, beside.as_str());
-    }
-    written
-}
-
-fn write_to<R: Files>(rt: &R, alloc: Global, name: &Name, bytes: &[u8]) -> io::Result<()> {
-    let path = path_of(name)?;
-    match fs::symlink_metadata(rt, path) {
-        Ok(old) if old.is_file() => write_beside(rt, alloc, path, bytes, Some(old.permissions())),
-        Ok(_) => fs::write(rt, path, bytes),
-        Err(error) if error.kind() == ErrorKind::NotFound => {
-            write_beside(rt, alloc, path, bytes, None)
+impl<R: Files> Disk<R> {
+    /// Opens a file at a place. One that is read from its start need not know places, as a pipe
+    /// does not.
+    fn opened(&self, name: &Name, place: u64) -> io::Result<Reading<R::File>> {
+        let mut file = fs::open(&self.rt, path_of(name)?)?;
+        if place > 0 {
+            file.seek(SeekFrom::Start(place))?;
         }
-        Err(error) => Err(error),
+        let found = file.metadata()?;
+        Ok(Reading {
+            name: copy_of(self.alloc, name)?,
+            file,
+            place,
+            is_plain: found.is_file(),
+            dev: found.dev(),
+            ino: found.ino(),
+        })
+    }
+
+    /// The open file, if its next byte is at this place, and else the file opened there. A drained
+    /// pipe has nothing more to give.
+    fn reading_at(&mut self, name: &Name, place: u64) -> io::Result<Reading<R::File>> {
+        match self.reading.take() {
+            Some(open) if place > 0 && open.place == place && open.name.bytes() == name.bytes() => {
+                Ok(open)
+            }
+            _ if self.emptied.iter().any(|it| it.bytes() == name.bytes()) => Err(io::Error::new(
+                ErrorKind::NotSeekable,
+                "it has to be read twice, and a pipe can be read once",
+            )),
+            _ => self.opened(name, place),
+        }
+    }
+
+    /// Notes that a plain file was read.
+    fn note(&mut self, reading: &Reading<R::File>) -> io::Result<()> {
+        let (dev, ino) = (reading.dev, reading.ino);
+        if reading.is_plain && seen_at(&self.seen, dev, ino).is_none() {
+            let name = copy_of(self.alloc, &reading.name)?;
+            self.seen.push(Seen { name, dev, ino })?;
+        }
+        Ok(())
+    }
+
+    /// The name by which the plain file of this name was read, if it was.
+    fn read_as(&self, name: &Name) -> io::Result<Option<Name>> {
+        let found = match fs::metadata(&self.rt, path_of(name)?) {
+            Ok(found) if found.is_file() => found,
+            Ok(_) | Err(_) => return Ok(None),
+        };
+        match seen_at(&self.seen, found.dev(), found.ino()) {
+            Some(it) => Ok(Some(copy_of(self.alloc, &it.name)?)),
+            None => Ok(None),
+        }
+    }
+
+    /// Reads on where the file is open at this place, and else opens it there. At its end it is
+    /// closed. A file that is not a plain one and gave bytes is noted, since it does not give them
+    /// again.
+    fn read_on(&mut self, name: &Name, place: u64, buf: &mut [u8]) -> io::Result<usize>
+        ensures bound { IfOk result (λ n. n ≤ length buf.new) }
+        ensures lent { IfErr result (λ e.
+            error_kind e ≡ ErrorKind.OutOfMemory → buf.new ≡ buf.old) }
+    {
+        let mut current = self.reading_at(name, place)?;
+        self.note(&current)?;
+        let is_begun = place == 0 && !current.is_plain;
+        if is_begun {
+            self.emptied.push(copy_of(self.alloc, name)?)?;
+        }
+        let n = match current.file.read(buf) {
+            Ok(n) => n,
+            Err(error) => return Err(failed_read(error)),
+        };
+        if n > 0 {
+            current.place = current.place.saturating_add(n as u64);
+            self.reading = Some(current);
+        } else if is_begun {
+            self.emptied.pop();
+        }
+        Ok(n)
+    }
+
+    /// Writes a file beside a name, and then gives it the name.
+    fn write_beside(
+        &self,
+        path: &str,
+        bytes: &[u8],
+        permissions: Option<Permissions>,
+    ) -> io::Result<()> {
+        let beside = format!(in self.alloc; "{path}.part")?;
+        let Ok(mut file) = File::create_new(&self.rt, beside.as_str()) else {
+            return fs::write(&self.rt, path, bytes);
+        };
+        let filled = fill(&mut file, bytes, permissions);
+        drop(file);
+        let written = match filled {
+            Ok(()) => fs::rename(&self.rt, beside.as_str(), path),
+            Err(error) => Err(error),
+        };
+        if written.is_err() {
+            let _gone = fs::remove_file(&self.rt, beside.as_str());
+        }
+        written
+    }
+
+    fn write(&self, name: &Name, bytes: &[u8]) -> io::Result<()> {
+        let path = path_of(name)?;
+        match fs::symlink_metadata(&self.rt, path) {
+            Ok(old) if old.is_file() => self.write_beside(path, bytes, Some(old.permissions())),
+            Ok(_) => fs::write(&self.rt, path, bytes),
+            Err(error) if error.kind() == ErrorKind::NotFound => {
+                self.write_beside(path, bytes, None)
+            }
+            Err(error) => Err(error),
+        }
     }
 }
 
@@ -314,16 +298,7 @@ impl<R: Files> Store for DiskStore<R> {
     ghost taken = { λ s. s.taken };
 
     fn read_at(&mut self, name: &Name, place: u64, buf: &mut [u8]) -> Result<usize, Fault> {
-        match read_on(
-            &self.rt,
-            self.alloc,
-            &mut self.reading,
-            &mut self.emptied,
-            &mut self.seen,
-            name,
-            place,
-            buf,
-        ) {
+        match self.disk.read_on(name, place, buf) {
             Ok(n) => {
                 self.taken = self.taken.saturating_add(n as u64);
                 Ok(n)
@@ -336,7 +311,7 @@ impl<R: Files> Store for DiskStore<R> {
                     self.absences = self.absences.saturating_add(1);
                     return Err(Fault::Missing);
                 }
-                self.failure = failure_of(self.alloc, name, Operation::Reading, error, None);
+                self.failure = failure_of(self.disk.alloc, name, Operation::Reading, error, None);
                 self.faults = self.faults.saturating_add(1);
                 Err(Fault::Failed)
             }
@@ -344,21 +319,19 @@ impl<R: Files> Store for DiskStore<R> {
     }
 
     fn write_whole(&mut self, name: &Name, bytes: &[u8]) -> Result<(), Fault> {
-        let (read_as, written) = match read_as(&self.rt, self.alloc, &self.seen, name) {
-            Ok(None) => (None, write_to(&self.rt, self.alloc, name, bytes)),
+        let (read_as, written) = match self.disk.read_as(name) {
+            Ok(None) => (None, self.disk.write(name, bytes)),
             Ok(read_as) => (read_as, Err(io::Error::from(ErrorKind::AlreadyExists))),
             Err(error) => (None, Err(error)),
         };
-        match written {
-            Ok(()) => Ok(()),
-            Err(error) => {
-                if error.kind() == ErrorKind::OutOfMemory {
-                    return Err(Fault::Memory);
-                }
-                self.failure = failure_of(self.alloc, name, Operation::Writing, error, read_as);
-                self.faults = self.faults.saturating_add(1);
-                Err(Fault::Failed)
-            }
+        let Err(error) = written else {
+            return Ok(());
+        };
+        if error.kind() == ErrorKind::OutOfMemory {
+            return Err(Fault::Memory);
         }
+        self.failure = failure_of(self.disk.alloc, name, Operation::Writing, error, read_as);
+        self.faults = self.faults.saturating_add(1);
+        Err(Fault::Failed)
     }
 }

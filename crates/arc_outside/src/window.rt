@@ -88,17 +88,10 @@ impl Window {
         ensures absence { HasCause Fault.Missing (S.absences store.old)
             (S.absences store.new) result }
     {
-        match take_room(self.alloc, &mut self.bytes) {
-            Ok(()) => {}
-            Err(Memory) => return Err(Fault::Memory),
-        }
-        match store.read_at(name, place, self.bytes.as_mut_slice()) {
-            Ok(n) => {
-                self.start = 0;
-                self.end = n;
-                Ok(n)
-            }
-            Err(fault) => Err(fault),
-        }
+        take_room(self.alloc, &mut self.bytes)?;
+        let n = store.read_at(name, place, self.bytes.as_mut_slice())?;
+        self.start = 0;
+        self.end = n;
+        Ok(n)
     }
 }
