@@ -46,10 +46,15 @@ fn subnets(again: &mut Again<'_>, doc: &Document, refused: &Name) -> Option<Subn
     Some(subnets)
 }
 
+/// The document that the words of the run name.
+fn document_of_run(again: &mut Again<'_>) -> Option<Document> {
+    let command = again.command()?;
+    again.document(document_of(&command)?)
+}
+
 /// The message about the two interfaces whose subnets overlap.
 fn overlap(again: &mut Again<'_>, refusal: &FileRefusal) -> Option<String> {
-    let command = again.command()?;
-    let doc = again.document(document_of(&command)?)?;
+    let doc = document_of_run(again)?;
     let subnets = subnets(again, &doc, &refusal.name)?;
     subnets.overlap(again.rt.alloc(), &doc, refusal.number)
 }
