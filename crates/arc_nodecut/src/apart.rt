@@ -62,17 +62,11 @@ fn keeps_off(case: &Case<'_>, links: &[Link], other: &LinkPath) -> bool
         (KeepsOff case.now.net.now (ends_in case.now) other.now) case.now.source.now.router.0
         links.now case.now.target.now.router.0 }
 {
-    let mut router = case.source.router;
-    for link in links {
-        let Some(arc) = case.step(router, *link) else {
-            return false;
-        };
-        if !may_pass(case, other, arc.head.router) {
-            return false;
-        }
-        router = arc.head.router;
-    }
-    router.0 == case.target.router.0
+    case.leads(
+        case.source.router,
+        links,
+        |arc| may_pass(case, other, arc.head.router),
+    )
 }
 
 /// Whether the links keep off each of the other paths.

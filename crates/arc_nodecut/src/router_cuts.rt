@@ -1,12 +1,11 @@
 //! Whether routers separate the ends, without a search and without an allocation.
-ghost use Rattle.arc_nodecut.specs.CutParts.{KeepsOver, KeepsBoth, IsInner, IsOff};
+ghost use Rattle.arc_nodecut.specs.CutParts.{StaysOn, IsInner, IsOff};
 ghost use Rattle.arc_nodecut.specs.NodeWitnesses.{PartsAt, IsRightRouterCut};
 ghost use Rattle.std.specs.List.Sorted.{IsStrictlyIncreasing};
-ghost use Rattle.std.specs.Prelude.{◌↔◌, ◌<◌, ◌-◌, ℕ, IsTrue, All, Contains, map};
-ghost use Rattle.witness_check.specs.Cases.{CaseHolds, ends_in};
+ghost use Rattle.std.specs.Prelude.{◌↔◌, ◌<◌, ◌-◌, IsTrue, All, Contains, map};
+ghost use Rattle.witness_check.specs.Cases.{CaseHolds, EachRouted, ends_in};
 
-use crate::cases::hop;
-use arc_base::{Link, List, Router};
+use arc_base::{List, Router};
 use witness_check::{Case, is_on};
 
 /// Whether the router is among these.
@@ -62,54 +61,17 @@ fn are_inner(case: &Case<'_>, routers: &[Router]) -> bool
     true
 }
 
-/// Whether the routed arc over a link in one direction, if there is one, does not lead from the
-/// side to a router off it that is not in the cut.
-fn keeps_over(
-    case: &Case<'_>,
-    routers: &[Router],
-    side: &List<bool>,
-    link: Link,
-    from_a: bool,
-) -> bool
+/// Whether each routed arc stays on the side, or leads to one of the routers.
+fn all_stay_on(case: &Case<'_>, routers: &[Router], side: &List<bool>) -> bool
     requires { CaseHolds case.now }
     ensures { IsTrue result ↔
-        KeepsOver case.now.net.now case.now.to routers.now side.now link.0 from_a }
+        EachRouted case.now.net.now case.now.to (StaysOn routers.now side.now) }
 {
-    let Some(hop) = hop(case, link, from_a) else {
-        return true;
-    };
-    if !is_on(side, hop.tail) {
-        return true;
-    }
-    if contains(routers, hop.head) {
-        return true;
-    }
-    is_on(side, hop.head)
-}
-
-/// Whether both arcs of a link keep to the side or the cut.
-fn keeps_both(case: &Case<'_>, routers: &[Router], side: &List<bool>, link: Link) -> bool
-    requires { CaseHolds case.now }
-    ensures { IsTrue result ↔ KeepsBoth case.now.net.now case.now.to routers.now side.now link.0 }
-{
-    if !keeps_over(case, routers, side, link, true) {
-        return false;
-    }
-    keeps_over(case, routers, side, link, false)
-}
-
-/// Whether all arcs keep to the side or the cut.
-fn keeps_all(case: &Case<'_>, routers: &[Router], side: &List<bool>) -> bool
-    requires { CaseHolds case.now }
-    ensures { IsTrue result ↔
-        ((link : ℕ) → KeepsBoth case.now.net.now case.now.to routers.now side.now link) }
-{
-    for place in 0..case.net.links.len() {
-        if !keeps_both(case, routers, side, Link(place)) {
-            return false;
-        }
-    }
-    true
+    case.first_routed(|arc| {
+        is_on(side, arc.tail.router)
+            && !contains(routers, arc.head.router)
+            && !is_on(side, arc.head.router)
+    }).is_none()
 }
 
 /// Whether the routers separate the ends, with the source on this side of them.
@@ -129,7 +91,7 @@ fn parts_at(case: &Case<'_>, routers: &List<Router>, side: &List<bool>) -> bool
     if !are_off(routers.slice(), side) {
         return false;
     }
-    keeps_all(case, routers.slice(), side)
+    all_stay_on(case, routers.slice(), side)
 }
 
 /// Whether the cut is right: at most k rising routers that separate the ends of a clear policy.

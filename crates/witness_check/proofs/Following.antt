@@ -1,10 +1,11 @@
 -- Links that are followed from a router on: in a valid network they name their arcs.
 use Rattle.std.proofs.Common.{◌≡◌, ℕ, suc, ◌+◌, ◌<◌, ◌≤◌, Bool, true, false, List, [], ◌∷◌, length, get_or, drop, refl, sym, ◌∙◌, ap, subst, arith}
-use Rattle.std.specs.Prelude.{IsTrue, ◌↔◌, ◌==◌, Some, slice_get}
+use Rattle.std.specs.Prelude.{IsTrue, IsFalse, IfSome, IfNone, ◌↔◌, Option, Some, None, slice_get}
 use Rattle.std.specs.List.{AllByRecursion}
-use Rattle.std.proofs.lemmas.Bool.{eqb-true, eq-eqb}
+use Rattle.std.proofs.lemmas.Bool.{false≢true}
 use Rattle.std.proofs.lemmas.List.{drop_more, drop_all}
 use Rattle.arc_base.specs.declared.place.Link.{Link}
+use Rattle.arc_base.specs.declared.place.Router.{Router}
 use Rattle.arc_base.specs.declared.prefix.Prefix.{Prefix}
 use Rattle.net_model.specs.declared.rows.FaceRow.{FaceRow}
 use Rattle.net_model.specs.declared.rows.LinkRow.{LinkRow}
@@ -13,7 +14,10 @@ use Rattle.net_model.specs.Routing.{Arc, IsArc, tail_router, head_router, tail_e
 use Rattle.net_model.specs.Validity.{IsValid, IsValidLink}
 use Rattle.net_model.specs.Witnesses.{Path, links_of}
 use Rattle.net_model.proofs.Arcs.{one_item, IsArc-unique}
+use Rattle.witness_check.specs.declared.arcs.ArcRows.{ArcRows}
+use Rattle.witness_check.specs.Cases.{arc_of}
 use Rattle.witness_check.specs.Trails.{IsStep, IsTrail, AnyArc}
+use Rattle.witness_check.proofs.RoutedArcs.{SomeRows}
 
 abbrev pub link_of : Arc → Link
 link_of arc = record { 0 = arc.link }
@@ -29,6 +33,10 @@ no_links link links e = let n : 0 ≡ suc (length links) = ap (λ (zs : List Lin
 
 pub same_link : (arc : Arc) (link : Link) → arc.link ≡ link.0 → link_of arc ≡ link
 same_link arc link e = ap (λ (n : ℕ). let l : Link = record { 0 = n } in l) e
+
+each_map : (P Q : Arc → Type 0) → ((arc : Arc) → P arc → Q arc) → (arcs : List Arc) → AllByRecursion P arcs → AllByRecursion Q arcs
+each_map P Q all [] each = tt
+each_map P Q all (arc ∷ arcs) each = (all arc each.0, each_map P Q all arcs each.1)
 
 module _ (net : Network) (to : Prefix) where
   -- the two arcs of a link do not begin at one router
@@ -84,25 +92,23 @@ module _ (net : Network) (to : Prefix) where
         let first : Begins u link links v = begins u link links v trail in
         off (subst P (one_step valid u link.0 first.arc arc first.step step) first.holds)
 
-    pub trail_goes_on : IsValid net → (u : ℕ) (link : Link) (links : List Link) (v : ℕ) (arc : Arc) → IsStep net to u link.0 arc → P arc →
-        IsTrail net to P u (link ∷ links) v ↔ IsTrail net to P (head_router arc) links v
-    trail_goes_on valid u link links v arc step holds = (
-      λ trail. let first : Begins u link links v = begins u link links v trail in
-          subst (λ (a : Arc). IsTrail net to P (head_router a) links v) (one_step valid u link.0 first.arc arc first.step step) first.rest,
-      λ rest. record {
-        arcs = arc ∷ rest.arcs;
-        over = ap (λ (l : Link). l ∷ links_of rest.arcs) (same_link arc link step.over) ∙ ap (λ (ls : List Link). link ∷ ls) rest.over;
-        leads = (step.routed.0, step.routed.1, step.tail, rest.leads);
-        each = (holds, rest.each);
-      },
-    )
+    trail_rest : IsValid net → (u : ℕ) (link : Link) (links : List Link) (v : ℕ) (arc : Arc) → IsStep net to u link.0 arc →
+        IsTrail net to P u (link ∷ links) v → IsTrail net to P (head_router arc) links v
+    trail_rest valid u link links v arc step trail =
+        let first : Begins u link links v = begins u link links v trail in
+        subst (λ (a : Arc). IsTrail net to P (head_router a) links v) (one_step valid u link.0 first.arc arc first.step step) first.rest
 
-    ends_with : (u v : ℕ) (arcs : List Arc) → links_of arcs ≡ [] → Path net to u arcs v → u ≡ v
-    ends_with u v [] over leads = leads
-    ends_with u v (a ∷ arcs) over leads = absurd (no_links (link_of a) (links_of arcs) (sym over))
+    trail_with : (u : ℕ) (link : Link) (links : List Link) (v : ℕ) (arc : Arc) → IsStep net to u link.0 arc → P arc →
+        IsTrail net to P (head_router arc) links v → IsTrail net to P u (link ∷ links) v
+    trail_with u link links v arc step holds rest = record {
+      arcs = arc ∷ rest.arcs;
+      over = ap (λ (l : Link). l ∷ links_of rest.arcs) (same_link arc link step.over) ∙ ap (λ (ls : List Link). link ∷ ls) rest.over;
+      leads = (step.routed.0, step.routed.1, step.tail, rest.leads);
+      each = (holds, rest.each);
+    }
 
-    pub trail_ends : (u v : ℕ) → IsTrail net to P u [] v ↔ (u ≡ v)
-    trail_ends u v = (λ trail. ends_with u v trail.arcs trail.over trail.leads, λ same. record { arcs = []; over = refl; leads = same; each = tt })
+    trail_ends : (u : ℕ) → IsTrail net to P u [] u
+    trail_ends u = record { arcs = []; over = refl; leads = refl; each = tt }
 
     -- the same at a place of the links
     pub none_at : (u : ℕ) (links : List Link) (i : ℕ) (d : Link) (v : ℕ) → i < length links → ((arc : Arc) → ¬ IsStep net to u (get_or links i d).0 arc) →
@@ -115,23 +121,18 @@ module _ (net : Network) (to : Prefix) where
     fails_at valid u links i d v arc within step off trail =
         trail_fails valid u (get_or links i d) (drop (i + 1) links) v arc step off (subst (λ (ls : List Link). IsTrail net to P u ls v) (drop_more links i d within) trail)
 
-    pub goes_on_at : IsValid net → (A : Type 0) (u : ℕ) (links : List Link) (i : ℕ) (d : Link) (v : ℕ) (arc : Arc) → i < length links → IsStep net to u (get_or links i d).0 arc → P arc →
-        (A ↔ IsTrail net to P u (drop i links) v) → A ↔ IsTrail net to P (head_router arc) (drop (i + 1) links) v
-    goes_on_at valid A u links i d v arc within step holds before =
-        let on : IsTrail net to P u (get_or links i d ∷ drop (i + 1) links) v ↔ IsTrail net to P (head_router arc) (drop (i + 1) links) v =
-        trail_goes_on valid u (get_or links i d) (drop (i + 1) links) v arc step holds in
-        let here : drop i links ≡ get_or links i d ∷ drop (i + 1) links = drop_more links i d within in (
-          λ a. on.0 (subst (λ (ls : List Link). IsTrail net to P u ls v) here (before.0 a)),
-          λ rest. before.1 (subst (λ (ls : List Link). IsTrail net to P u ls v) (sym here) (on.1 rest)),
-        )
+    pub rest_at : IsValid net → (u : ℕ) (links : List Link) (i : ℕ) (d : Link) (v : ℕ) (arc : Arc) → i < length links → IsStep net to u (get_or links i d).0 arc →
+        IsTrail net to P u (drop i links) v → IsTrail net to P (head_router arc) (drop (i + 1) links) v
+    rest_at valid u links i d v arc within step trail =
+        trail_rest valid u (get_or links i d) (drop (i + 1) links) v arc step (subst (λ (ls : List Link). IsTrail net to P u ls v) (drop_more links i d within) trail)
 
-    pub ends_at : (A : Type 0) (u : ℕ) (links : List Link) (i : ℕ) (v : ℕ) → length links ≤ i → (A ↔ IsTrail net to P u (drop i links) v) → IsTrue (u == v) ↔ A
-    ends_at A u links i v past before =
-        let here : drop i links ≡ [] = drop_all i links past in
-        let stop : IsTrail net to P u [] v ↔ (u ≡ v) = trail_ends u v in (
-          λ t. before.1 (subst (λ (ls : List Link). IsTrail net to P u ls v) (sym here) (stop.1 (eqb-true u v t))),
-          λ a. eq-eqb u v (stop.0 (subst (λ (ls : List Link). IsTrail net to P u ls v) here (before.0 a))),
-        )
+    pub with_at : (u : ℕ) (links : List Link) (i : ℕ) (d : Link) (v : ℕ) (arc : Arc) → i < length links → IsStep net to u (get_or links i d).0 arc → P arc →
+        IsTrail net to P (head_router arc) (drop (i + 1) links) v → IsTrail net to P u (drop i links) v
+    with_at u links i d v arc within step holds rest =
+        subst (λ (ls : List Link). IsTrail net to P u ls v) (sym (drop_more links i d within)) (trail_with u (get_or links i d) (drop (i + 1) links) v arc step holds rest)
+
+    pub end_at : (u : ℕ) (links : List Link) (i : ℕ) → length links ≤ i → IsTrail net to P u (drop i links) u
+    end_at u links i past = subst (λ (ls : List Link). IsTrail net to P u ls u) (sym (drop_all i links past)) (trail_ends u)
 
   -- links name their arcs
   pub one_way : IsValid net → (u v w : ℕ) (links : List Link) (xs ys : List Arc) → links_of xs ≡ links → links_of ys ≡ links → Path net to u xs v → Path net to u ys w → xs ≡ ys
@@ -147,6 +148,42 @@ module _ (net : Network) (to : Prefix) where
       let rest : xs ≡ ys = one_way valid (head_router b) v w (links_of ys) xs ys (same_rest (link_of a) (link_of b) (links_of xs) (links_of ys) both) refl
       (subst (λ (x : Arc). Path net to (head_router x) xs v) first lead_a.3) lead_b.3 in
       ap (λ (x : Arc). x ∷ xs) first ∙ ap (λ (xs : List Arc). b ∷ xs) rest
+
+  path_end : (arcs : List Arc) (u v w : ℕ) → Path net to u arcs v → Path net to u arcs w → v ≡ w
+  path_end [] u v w a b = sym a ∙ b
+  path_end (x ∷ arcs) u v w a b = path_end arcs (head_router x) v w a.3 b.3
+
+  -- and they lead to one router
+  pub one_end : IsValid net → (P Q : Arc → Type 0) (u : ℕ) (links : List Link) (v w : ℕ) → IsTrail net to P u links v → IsTrail net to Q u links w → v ≡ w
+  one_end valid P Q u links v w a b =
+      path_end b.arcs u v w (subst (λ (xs : List Arc). Path net to u xs v) (one_way valid u v w links a.arcs b.arcs a.over b.over a.leads b.leads) a.leads) b.leads
+
+  -- what holds of an arc with one property holds of each of a trail
+  pub trail_map : (P Q : Arc → Type 0) → ((arc : Arc) → P arc → Q arc) → (u : ℕ) (links : List Link) (v : ℕ) → IsTrail net to P u links v → IsTrail net to Q u links v
+  trail_map P Q all u links v trail = record { arcs = trail.arcs; over = trail.over; leads = trail.leads; each = each_map P Q all trail.arcs trail.each }
+
+  -- the links are a trail of arcs with the property, where the test of the arcs tells whether they have it
+  module _ (Q : Arc → Type 0) (Yes No : ArcRows → Type 0) (u : ℕ) (links : List Link) where
+    pub told_yes : ((rows : ArcRows) → Yes rows → Q (arc_of rows)) → (v : ℕ) → IsTrail net to (SomeRows Yes) u links v → IsTrail net to Q u links v
+    told_yes on v trail = trail_map (SomeRows Yes) Q (λ arc h. subst Q h.1 (on h.0 h.2)) u links v trail
+
+    pub told_no : ((rows : ArcRows) → No rows → ¬ Q (arc_of rows)) → (v : ℕ) → ¬ IsTrail net to (λ arc. ¬ SomeRows No arc) u links v → ¬ IsTrail net to Q u links v
+    told_no off v none trail =
+        none (trail_map Q (λ arc. ¬ SomeRows No arc) (λ arc q h. off h.0 h.2 (subst Q (sym h.1) q)) u links v trail)
+
+    pub told : (v : ℕ) (b : Bool) → (IsTrue b → IsTrail net to (SomeRows Yes) u links v) → (IsFalse b → ¬ IsTrail net to (λ arc. ¬ SomeRows No arc) u links v) →
+        ((rows : ArcRows) → Yes rows → Q (arc_of rows)) → ((rows : ArcRows) → No rows → ¬ Q (arc_of rows)) → IsTrue b ↔ IsTrail net to Q u links v
+    told v true leads none on off = (λ _. told_yes on v (leads refl), λ _. refl)
+    told v false leads none on off = (λ t. absurd (false≢true t), λ trail. absurd (told_no off v (none refl) trail))
+
+    pub told_end : (o : Option Router) → IfSome o (λ r. IsTrail net to (SomeRows Yes) u links r.0) → ((rows : ArcRows) → Yes rows → Q (arc_of rows)) → IfSome o (λ r. IsTrail net to Q u links r.0)
+    told_end None leads on = tt
+    told_end (Some r) leads on = told_yes on r.0 leads
+
+    pub told_no_end : (o : Option Router) → IfNone o ((v : ℕ) → ¬ IsTrail net to (λ arc. ¬ SomeRows No arc) u links v) → ((rows : ArcRows) → No rows → ¬ Q (arc_of rows)) →
+        IfNone o ((v : ℕ) → ¬ IsTrail net to Q u links v)
+    told_no_end None none off = λ v. told_no off v (none v)
+    told_no_end (Some r) none off = tt
 
 pub any : (arcs : List Arc) → AllByRecursion AnyArc arcs
 any [] = tt

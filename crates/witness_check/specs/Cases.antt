@@ -50,10 +50,6 @@ IsRoutedArc net to arc = IsArc net arc × IsRouted net to arc
 abbrev pub IsOver : ℕ → Bool → Arc → Type 0
 IsOver link from_a arc = (arc.link ≡ link) × (arc.from_a ≡ from_a)
 
--- what is asked holds of the arc, if it is routed
-abbrev pub IfRouted : Network → Prefix → (Arc → Type 0) → Arc → Type 0
-IfRouted net to P arc = IsRouted net to arc → P arc
-
 -- what is asked holds of the routed arc of this link in this direction, if there is one
 abbrev pub EachOver : Network → Prefix → ℕ → Bool → (Arc → Type 0) → Type 0
 EachOver net to link from_a P =
@@ -62,6 +58,10 @@ EachOver net to link from_a P =
 -- what is asked holds of each routed arc
 abbrev pub EachRouted : Network → Prefix → (Arc → Type 0) → Type 0
 EachRouted net to P = (arc : Arc) → IsRoutedArc net to arc → P arc
+
+-- the test gives this answer for the rows of the arc
+abbrev pub TestGives : (ArcRows → Bool → Type 0) → Bool → Arc → Type 0
+TestGives test answer arc = (rows : ArcRows) × (arc_of rows ≡ arc) × test rows answer
 
 -- each packet of the class enters, and leaves once it is at the target router
 abbrev pub EachEntersAndLeaves : Network → Ends → Class → Type 0

@@ -7,14 +7,7 @@ use Rattle.net_model.specs.declared.rows.Network.{Network}
 use Rattle.net_model.specs.Routing.{Arc}
 use Rattle.net_model.specs.Forwarding.{Ends, source_router, target_router, ArcPermits}
 use Rattle.net_model.specs.Witnesses.{IsOn, LeavesSide}
-use Rattle.witness_check.specs.Cases.{IsRoutedArc, IsOver}
-
--- an arc of the link in this direction leaves the side
-pub record LeavesOverIn (net : Network) (to : Prefix) (side : List Bool) (link : ℕ)
-    (from_a : Bool) : Type 0 where
-  pub arc : Arc
-  pub over : IsOver link from_a arc
-  pub leaving : LeavesSide net to side arc
+use Rattle.witness_check.specs.Cases.{IsRoutedArc}
 
 -- an arc of the link leaves the side
 pub record LeavesOver (net : Network) (to : Prefix) (side : List Bool) (link : ℕ) : Type 0 where
@@ -40,14 +33,6 @@ pub record PartsEnds (net : Network) (ends : Ends) (side : List Bool) : Type 0 w
   pub flags : length side ≡ length net.routers
   pub source : IsOn side (source_router ends)
   pub target : ¬ IsOn side (target_router ends)
-
--- the routed arc of the link in this direction denies the packet
-pub record DeniesOverIn (net : Network) (to : Prefix) (p : Packet) (link : ℕ)
-    (from_a : Bool) : Type 0 where
-  pub arc : Arc
-  pub over : IsOver link from_a arc
-  pub routed : IsRoutedArc net to arc
-  pub denied : ¬ ArcPermits net arc p
 
 -- a routed arc of the link denies the packet
 pub record DeniesOver (net : Network) (to : Prefix) (p : Packet) (link : ℕ) : Type 0 where

@@ -1,18 +1,17 @@
 //! Whether the lists on a link permit each packet of a class.
-ghost use Rattle.net_model.specs.Forwarding.{Ends, AreEnds, HasEnds, ArcPermitsEach};
+ghost use Rattle.net_model.specs.Forwarding.{Ends, AreEnds, HasEnds, ArcPermits, ArcPermitsEach};
 ghost use Rattle.net_model.specs.Packets.{subject};
 ghost use Rattle.net_model.specs.Policies.{IsClear};
-ghost use Rattle.net_model.specs.Routing.{IsArc};
 ghost use Rattle.net_model.specs.Validity.{IsValid};
 ghost use Rattle.std.specs.Prelude.{◌↔◌, IsTrue};
 ghost use Rattle.witness_check.specs.Cases.{ends_in, CaseHolds, AsksPermitted, EachPermitted};
-ghost use Rattle.witness_check.specs.Cases.{IfRouted, EachOver, EachRouted, arc_of};
+ghost use Rattle.witness_check.specs.Cases.{EachRouted, arc_of};
 
 use crate::answers::{Asked, none_gets};
 use crate::arcs::ArcRows;
 use crate::cases::Case;
-use arc_base::{Link, ListId};
-use net_model::{Class, Network, Policy};
+use arc_base::ListId;
+use net_model::{Class, Network, Packet, Policy};
 
 /// The packets that the list with this place permits. An interface without a defined list permits
 /// every packet, as the empty list gives every packet the answer no.
@@ -49,6 +48,13 @@ pub fn permits_each(net: &Network, list: Option<ListId>, class: Class) -> bool
     none_gets(&denied, class)
 }
 
+/// Whether the lists at both ends of the arc permit the packet.
+pub fn arc_permits(net: &Network, arc: &ArcRows<'_>, packet: Packet) -> bool
+    ensures { IsTrue result ↔ ArcPermits net.now (arc_of arc.now) packet }
+{
+    net.list_permits(arc.tail.list_out, packet) && net.list_permits(arc.head.list_in, packet)
+}
+
 /// Whether the lists at both ends of the arc permit each packet of the class.
 pub fn arc_permits_each(net: &Network, arc: &ArcRows<'_>, class: Class) -> bool
     ensures { IsTrue result ↔ ArcPermitsEach net.now class (arc_of arc.now) }
@@ -57,41 +63,14 @@ pub fn arc_permits_each(net: &Network, arc: &ArcRows<'_>, class: Class) -> bool
 }
 
 impl Case<'_> {
-    /// Whether the arc permits each packet of the policy, or is not routed.
-    fn permits_if_routed(&self, arc: &ArcRows<'_>) -> bool
-        requires told { CaseHolds self.now }
-        requires is_arc { IsArc self.now.net.now (arc_of arc.now) }
-        ensures { IsTrue result ↔ IfRouted self.now.net.now self.now.to
-            (ArcPermitsEach self.now.net.now self.now.whole) (arc_of arc.now) }
-    {
-        arc_permits_each(self.net, arc, self.whole) || !self.is_routed(arc)
-    }
-
-    /// Whether the arc of the link in one direction, if it is routed, permits each packet of the
-    /// policy.
-    fn permits_over(&self, link: Link, from_a: bool) -> bool
-        requires { CaseHolds self.now }
-        ensures { IsTrue result ↔ EachOver self.now.net.now self.now.to link.0 from_a
-            (ArcPermitsEach self.now.net.now self.now.whole) }
-    {
-        match self.arc_over(link, from_a) {
-            Some(arc) => self.permits_if_routed(&arc),
-            None => true,
-        }
-    }
-
     /// Whether each routed arc permits each packet of the policy.
     fn each_permits(&self) -> bool
         requires { CaseHolds self.now }
         ensures { IsTrue result ↔ EachRouted self.now.net.now self.now.to
             (ArcPermitsEach self.now.net.now self.now.whole) }
     {
-        for place in 0..self.net.links.len() {
-            if !self.permits_over(Link(place), true) || !self.permits_over(Link(place), false) {
-                return false;
-            }
-        }
-        true
+        self.first_routed(|arc| !arc_permits_each(self.net, &arc, self.whole))
+            .is_none()
     }
 
     /// Whether the policy is clear: no routed arc denies a packet of it, or both its ends are at

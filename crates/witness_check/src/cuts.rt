@@ -1,15 +1,14 @@
 //! Whether links are a cut: all links whose routed arcs leave a side.
-ghost use Rattle.net_model.specs.Routing.{IsArc};
-ghost use Rattle.net_model.specs.Witnesses.{IsOn, LeavesSide, IsRightCut, IsRightRefused};
-ghost use Rattle.net_model.specs.Witnesses.{IsRightDenied};
+ghost use Rattle.net_model.specs.Witnesses.{IsOn, IsRightCut, IsRightRefused, IsRightDenied};
 ghost use Rattle.std.specs.List.Sorted.{IsStrictlyIncreasing};
 ghost use Rattle.std.specs.Prelude.{◌↔◌, ◌<◌, IsTrue, All, map};
-ghost use Rattle.witness_check.specs.Cases.{CaseHolds, ends_in, arc_of};
-ghost use Rattle.witness_check.specs.Cuts.{LeavesOver, LeavesOverIn, CutsOver, CutsAll, IsCut};
-ghost use Rattle.witness_check.specs.Cuts.{PartsEnds, DeniesOverIn, DeniesOver};
+ghost use Rattle.witness_check.specs.Cases.{CaseHolds, ends_in};
+ghost use Rattle.witness_check.specs.Cuts.{LeavesOver, CutsOver, CutsAll, IsCut};
+ghost use Rattle.witness_check.specs.Cuts.{PartsEnds, DeniesOver};
 
 use crate::arcs::ArcRows;
 use crate::cases::Case;
+use crate::clearness::arc_permits;
 use crate::packets::{is_of, lies_in};
 use crate::paths::contains;
 use arc_base::{Link, List, Router};
@@ -38,33 +37,14 @@ fn are_rising(links: &[Link]) -> bool
 }
 
 impl Case<'_> {
-    /// Whether the arc is routed and leaves the side.
-    fn is_leaving(&self, side: &List<bool>, arc: &ArcRows<'_>) -> bool
-        requires told { CaseHolds self.now }
-        requires is_arc { IsArc self.now.net.now (arc_of arc.now) }
-        ensures { IsTrue result ↔
-            LeavesSide self.now.net.now self.now.to side.now (arc_of arc.now) }
-    {
-        is_on(side, arc.tail.router) && !is_on(side, arc.head.router) && self.is_routed(arc)
-    }
-
-    /// Whether the routed arc of the link in one direction leaves the side.
-    fn leaves_over(&self, side: &List<bool>, link: Link, from_a: bool) -> bool
-        requires { CaseHolds self.now }
-        ensures { IsTrue result ↔ LeavesOverIn self.now.net.now self.now.to side.now link.0 from_a }
-    {
-        match self.arc_over(link, from_a) {
-            Some(arc) => self.is_leaving(side, &arc),
-            None => false,
-        }
-    }
-
     /// Whether a routed arc of the link leaves the side.
     fn leaves_side(&self, side: &List<bool>, link: Link) -> bool
         requires { CaseHolds self.now }
         ensures { IsTrue result ↔ LeavesOver self.now.net.now self.now.to side.now link.0 }
     {
-        self.leaves_over(side, link, true) || self.leaves_over(side, link, false)
+        let leaves = |arc: ArcRows<'_>| is_on(side, arc.tail.router)
+            && !is_on(side, arc.head.router);
+        self.routed_on(link, &leaves).is_some()
     }
 
     /// Whether a routed arc of each of these links leaves the side.
@@ -138,26 +118,13 @@ impl Case<'_> {
         self.is_cut(side, links) && self.is_clear()
     }
 
-    /// Whether the routed arc of the link in one direction denies the packet.
-    fn denies_over(&self, p: Packet, link: Link, from_a: bool) -> bool
-        requires { CaseHolds self.now }
-        ensures { IsTrue result ↔ DeniesOverIn self.now.net.now self.now.to p link.0 from_a }
-    {
-        match self.routed_arc(link, from_a) {
-            Some(arc) => {
-                !self.net.list_permits(arc.tail.list_out, p)
-                    || !self.net.list_permits(arc.head.list_in, p)
-            }
-            None => false,
-        }
-    }
-
     /// Whether a routed arc of the link denies the packet.
     fn denies(&self, p: Packet, link: Link) -> bool
         requires { CaseHolds self.now }
         ensures { IsTrue result ↔ DeniesOver self.now.net.now self.now.to p link.0 }
     {
-        self.denies_over(p, link, true) || self.denies_over(p, link, false)
+        let denies = |arc: ArcRows<'_>| !arc_permits(self.net, &arc, p);
+        self.routed_on(link, &denies).is_some()
     }
 
     /// Whether the refusal is right: the packet is the policy's, and a routed arc of the link

@@ -23,6 +23,6 @@ pub use answers::{Asked, Share, answer, none_gets};
 pub use arcs::ArcRows;
 pub use boxes::{entry_class, halve_towards, splits};
 pub use cases::Case;
-pub use clearness::{arc_permits_each, clear, permits_each, permitted};
+pub use clearness::{arc_permits, arc_permits_each, clear, permits_each, permitted};
 pub use cuts::is_on;
 pub use packets::lies_in;

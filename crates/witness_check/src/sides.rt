@@ -1,21 +1,19 @@
 //! Whether sides are closed and their classes make up all packets of the policy.
 ghost use Rattle.net_model.specs.Packets.{ShareNoPacket, packets};
-ghost use Rattle.net_model.specs.Routing.{IsArc};
 ghost use Rattle.net_model.specs.Witnesses.{IsUniform, IsRightClosed};
 ghost use Rattle.std.specs.Prelude.{◌≡◌, ◌↔◌, ◌^◌, ◌<◌, ◌≤◌, IsTrue, All, AllPairs, length, sum_by};
-ghost use Rattle.witness_check.specs.Cases.{CaseHolds, ends_in, arc_of, EachOver, EachRouted};
-ghost use Rattle.witness_check.specs.Cases.{IfRouted};
+ghost use Rattle.witness_check.specs.Cases.{CaseHolds, ends_in, arc_of, EachRouted};
 ghost use Rattle.witness_check.specs.Sides.{HoldsSource, SparesTarget, Stands, Keeps, KeepsEach};
 
 use crate::answers::answer;
 use crate::arcs::ArcRows;
 use crate::boxes::{share_none, size};
 use crate::cases::Case;
+use crate::clearness::arc_permits;
 use crate::cuts::is_on;
 use crate::order::are_in_order;
 use crate::packets::lies_in;
 use crate::trails::may_break;
-use arc_base::Link;
 use net_model::{Class, ClassSide, Network, PacketList, PolicyKind};
 
 /// The number of the class's packets.
@@ -129,38 +127,7 @@ impl Case<'_> {
         if !is_on(&shown.side, arc.tail.router) || is_on(&shown.side, arc.head.router) {
             return true;
         }
-        let p = shown.class.first_packet();
-        !self.net.list_permits(arc.tail.list_out, p) || !self.net.list_permits(arc.head.list_in, p)
-    }
-
-    /// Whether the arc may not break the policy, or keeps to each of the sides.
-    fn keeps_or_spares(&self, kind: PolicyKind, sides: &[ClassSide], arc: &ArcRows<'_>) -> bool
-        ensures { IsTrue result ↔ KeepsEach self.now.net.now kind sides.now (arc_of arc.now) }
-    {
-        !may_break(kind, arc) || self.keeps_each(arc, sides)
-    }
-
-    /// Whether the arc may not break the policy, or keeps to each of the sides, or is not routed.
-    fn keeps_if_routed(&self, kind: PolicyKind, sides: &[ClassSide], arc: &ArcRows<'_>) -> bool
-        requires told { CaseHolds self.now }
-        requires is_arc { IsArc self.now.net.now (arc_of arc.now) }
-        ensures { IsTrue result ↔ IfRouted self.now.net.now self.now.to
-            (KeepsEach self.now.net.now kind sides.now) (arc_of arc.now) }
-    {
-        self.keeps_or_spares(kind, sides, arc) || !self.is_routed(arc)
-    }
-
-    /// Whether the arc of the link in one direction, if it is routed and may break the policy,
-    /// keeps to each of the sides.
-    fn keeps_over(&self, kind: PolicyKind, sides: &[ClassSide], link: Link, from_a: bool) -> bool
-        requires { CaseHolds self.now }
-        ensures { IsTrue result ↔ EachOver self.now.net.now self.now.to link.0 from_a
-            (KeepsEach self.now.net.now kind sides.now) }
-    {
-        match self.arc_over(link, from_a) {
-            Some(arc) => self.keeps_if_routed(kind, sides, &arc),
-            None => true,
-        }
+        !arc_permits(self.net, arc, shown.class.first_packet())
     }
 
     /// Whether the arc keeps to each of the sides.
@@ -176,14 +143,8 @@ impl Case<'_> {
         ensures { IsTrue result ↔
             EachRouted self.now.net.now self.now.to (KeepsEach self.now.net.now kind sides.now) }
     {
-        for place in 0..self.net.links.len() {
-            if !self.keeps_over(kind, sides, Link(place), true)
-                || !self.keeps_over(kind, sides, Link(place), false)
-            {
-                return false;
-            }
-        }
-        true
+        self.first_routed(|arc| may_break(kind, &arc) && !self.keeps_each(&arc, sides))
+            .is_none()
     }
 
     /// Whether the closed sides are right: their classes make up the policy, and no packet of a

@@ -1,11 +1,10 @@
 //! Whether links lead on from router to router.
-ghost use Rattle.net_model.specs.Routing.{Arc, IsArc, IsRouted, tail_router};
+ghost use Rattle.net_model.specs.Routing.{Arc};
 ghost use Rattle.net_model.specs.Validity.{IsValid};
 ghost use Rattle.net_model.specs.Witnesses.{IsPath, MayBreak};
-ghost use Rattle.std.specs.Prelude.{◌≡◌, ◌↔◌, IsTrue, IfSome, IfNone};
-ghost use Rattle.witness_check.specs.Cases.{CaseHolds, arc_of, ends_in};
+ghost use Rattle.std.specs.Prelude.{◌↔◌, ℕ, true, false, IsTrue, IsFalse, IfSome, IfNone};
+ghost use Rattle.witness_check.specs.Cases.{CaseHolds, arc_of, ends_in, TestGives};
 ghost use Rattle.witness_check.specs.Trails.{IsStep, IsTrail, IsTrailOnce, MayCarry, Avoids};
-ghost use Rattle.witness_check.specs.Trails.{AnyArc};
 
 use crate::arcs::ArcRows;
 use crate::cases::Case;
@@ -25,36 +24,6 @@ pub(crate) fn may_break(kind: PolicyKind, arc: &ArcRows<'_>) -> bool
 }
 
 impl<'a> Case<'a> {
-    /// Whether the arc leads on from the router and is routed.
-    fn leads_from(&self, router: Router, arc: &ArcRows<'_>) -> bool
-        requires told { CaseHolds self.now }
-        requires is_arc { IsArc self.now.net.now (arc_of arc.now) }
-        ensures { IsTrue result ↔ ((tail_router (arc_of arc.now) ≡ router.0) ×
-            IsRouted self.now.net.now self.now.to (arc_of arc.now)) }
-    {
-        arc.tail.router.0 == router.0 && self.is_routed(arc)
-    }
-
-    /// The routed arc of the link in one direction, if it leads on from the router.
-    fn step_over(&self, router: Router, link: Link, from_a: bool) -> Option<ArcRows<'a>>
-        requires { CaseHolds self.now }
-        ensures found { IfSome result (λ arc.
-            IsStep self.now.net.now self.now.to router.0 link.0 (arc_of arc)) }
-        ensures none { IfNone result ((arc : Arc) → arc.from_a ≡ from_a →
-            ¬ IsStep self.now.net.now self.now.to router.0 link.0 arc) }
-    {
-        match self.arc_over(link, from_a) {
-            Some(arc) => {
-                if self.leads_from(router, &arc) {
-                    Some(arc)
-                } else {
-                    None
-                }
-            }
-            None => None,
-        }
-    }
-
     /// The routed arc that leads on from the router over the link. A link joins two routers, so
     /// there is one at most.
     pub fn step(&self, router: Router, link: Link) -> Option<ArcRows<'a>>
@@ -64,27 +33,54 @@ impl<'a> Case<'a> {
         ensures none { IfNone result ((arc : Arc) →
             ¬ IsStep self.now.net.now self.now.to router.0 link.0 arc) }
     {
-        match self.step_over(router, link, true) {
-            Some(arc) => Some(arc),
-            None => self.step_over(router, link, false),
-        }
+        self.routed_on(link, &|arc: ArcRows<'_>| arc.tail.router.0 == router.0)
     }
 
-    /// Whether the links lead from the source to the target.
-    fn leads(&self, links: &[Link]) -> bool
+    /// The router to which the links lead from this one, if they lead on over routed arcs to which
+    /// the test says yes.
+    pub fn end_of<F: Fn(ArcRows<'a>) -> bool>(
+        &self,
+        from: Router,
+        links: &[Link],
+        test: F,
+    ) -> Option<Router>
         requires told { CaseHolds self.now }
         requires valid { IsValid self.now.net.now }
-        ensures { IsTrue result ↔ IsTrail self.now.net.now self.now.to AnyArc
-            self.now.source.now.router.0 links.now self.now.target.now.router.0 }
+        requires test { F.IsAlwaysCallable test }
+        ensures found { IfSome result (λ router. IsTrail self.now.net.now self.now.to
+            (TestGives (F.post test) true) from.0 links.now router.0) }
+        ensures none { IfNone result ((v : ℕ) → ¬ IsTrail self.now.net.now self.now.to
+            (λ arc. ¬ TestGives (F.post test) false arc) from.0 links.now v) }
     {
-        let mut router = self.source.router;
+        let mut router = from;
         for link in links {
             let Some(arc) = self.step(router, *link) else {
-                return false;
+                return None;
             };
+            if !test(arc) {
+                return None;
+            }
             router = arc.head.router;
         }
-        router.0 == self.target.router.0
+        Some(router)
+    }
+
+    /// Whether the links lead from the router to the target over routed arcs to which the test says
+    /// yes.
+    pub fn leads<F: Fn(ArcRows<'a>) -> bool>(&self, from: Router, links: &[Link], test: F) -> bool
+        requires told { CaseHolds self.now }
+        requires valid { IsValid self.now.net.now }
+        requires test { F.IsAlwaysCallable test }
+        ensures yes { IsTrue result → IsTrail self.now.net.now self.now.to
+            (TestGives (F.post test) true) from.0 links.now self.now.target.now.router.0 }
+        ensures no { IsFalse result → ¬ IsTrail self.now.net.now self.now.to
+            (λ arc. ¬ TestGives (F.post test) false arc) from.0 links.now
+            self.now.target.now.router.0 }
+    {
+        match self.end_of(from, links, test) {
+            Some(router) => router.0 == self.target.router.0,
+            None => false,
+        }
     }
 
     /// Whether the path leads from the source to the target.
@@ -93,19 +89,11 @@ impl<'a> Case<'a> {
         requires valid { IsValid self.now.net.now }
         ensures { IsTrue result ↔ IsPath self.now.net.now (ends_in self.now) path.now }
     {
-        self.leads(path.links.slice())
+        self.leads(self.source.router, path.links.slice(), |_arc| true)
     }
 
-    /// Whether the arc permits each packet of the class, and a walk that breaks the policy may use
-    /// it.
-    fn may_carry(&self, kind: PolicyKind, class: Class, arc: &ArcRows<'_>) -> bool
-        ensures { IsTrue result ↔ MayCarry self.now.net.now kind class (arc_of arc.now) }
-    {
-        may_break(kind, arc) && arc_permits_each(self.net, arc, class)
-    }
-
-    /// Whether the links lead from the source to the target over arcs that may carry each packet of
-    /// the class.
+    /// Whether the links lead from the source to the target over arcs that permit each packet of
+    /// the class, and that a walk that breaks the policy may use.
     pub(crate) fn carries(&self, kind: PolicyKind, class: Class, links: &[Link]) -> bool
         requires told { CaseHolds self.now }
         requires valid { IsValid self.now.net.now }
@@ -113,17 +101,9 @@ impl<'a> Case<'a> {
             IsTrail self.now.net.now self.now.to (MayCarry self.now.net.now kind class)
             self.now.source.now.router.0 links.now self.now.target.now.router.0 }
     {
-        let mut router = self.source.router;
-        for link in links {
-            let Some(arc) = self.step(router, *link) else {
-                return false;
-            };
-            if !self.may_carry(kind, class, &arc) {
-                return false;
-            }
-            router = arc.head.router;
-        }
-        router.0 == self.target.router.0
+        self.leads(self.source.router, links, |arc| {
+            may_break(kind, &arc) && arc_permits_each(self.net, &arc, class)
+        })
     }
 
     /// Whether the links lead from the one router to the target, and no arc leads to the other
@@ -134,17 +114,7 @@ impl<'a> Case<'a> {
         ensures { IsTrue result ↔ IsTrail self.now.net.now self.now.to (Avoids other.0) from.0
             links.now self.now.target.now.router.0 }
     {
-        let mut router = from;
-        for link in links {
-            let Some(arc) = self.step(router, *link) else {
-                return false;
-            };
-            if arc.head.router.0 == other.0 {
-                return false;
-            }
-            router = arc.head.router;
-        }
-        router.0 == self.target.router.0
+        self.leads(from, links, |arc| arc.head.router.0 != other.0)
     }
 
     /// Whether the links lead from the source to the target, and no router occurs twice on the way.

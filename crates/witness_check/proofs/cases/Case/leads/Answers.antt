@@ -1,25 +1,19 @@
-use Rattle.std.proofs.Common.{arith}
-use Rattle.witness_check.specs.Cases.{arc_of}
-use Rattle.witness_check.specs.Trails.{IsTrail, AnyArc}
-use Rattle.std.proofs.lemmas.Bool.{false≢true}
-use Rattle.witness_check.proofs.Following.{none_at, goes_on_at, ends_at}
+use Rattle.std.proofs.Common.{ℕ, true, sym, ◌∙◌, subst}
+use Rattle.std.proofs.lemmas.Bool.{eqb-true, eq-eqb, false≢true}
+use Rattle.witness_check.specs.Cases.{TestGives}
+use Rattle.witness_check.specs.Trails.{IsTrail}
+use Rattle.witness_check.proofs.Following.{one_end}
 use Rattle.witness_check.proofs.cases.Case.leads.Goals as goal
 
-pub returns-in_default : goal.returns-in_default
-returns-in_default c = (
-  λ t. absurd (false≢true t),
-  λ trail. absurd (none_at c.args.self.now.net.now c.args.self.now.to AnyArc c.loop-link.router.0 c.args.links.now c.loop-link.link-index _ c.args.self.now.target.now.router.0
-      (omega arith) c.in_default.ensures.none (c.loop-link.invariant.0 trail)),
-)
+pub returns-in-Some-clause-yes : goal.returns-in-Some-clause-yes
+returns-in-Some-clause-yes g c t =
+    subst (λ (v : ℕ). IsTrail c.args.self.now.net.now c.args.self.now.to (TestGives (goal.F-post g c.args.test) true) c.args.from.0 c.args.links.now v)
+    (eqb-true c.in-Some.router.0 c.args.self.now.target.now.router.0 t) c.in-Some.ensures.found
 
-pub loop-link-preserved : goal.loop-link-preserved
-loop-link-preserved c =
-    goes_on_at c.args.self.now.net.now c.args.self.now.to AnyArc c.requires.valid
-    (IsTrail c.args.self.now.net.now c.args.self.now.to AnyArc c.args.self.now.source.now.router.0 c.args.links.now c.args.self.now.target.now.router.0)
-    c.loop-link.router.0 c.args.links.now c.loop-link.link-index _ c.args.self.now.target.now.router.0 (arc_of c.in-Some.arc) (omega arith) c.in-Some.ensures.found tt c.loop-link.invariant
+pub returns-in-Some-clause-no : goal.returns-in-Some-clause-no
+returns-in-Some-clause-no g c off trail =
+    false≢true (sym off ∙ eq-eqb c.in-Some.router.0 c.args.self.now.target.now.router.0 (one_end c.args.self.now.net.now c.args.self.now.to c.requires.valid _ _ c.args.from.0
+    c.args.links.now c.in-Some.router.0 c.args.self.now.target.now.router.0 c.in-Some.ensures.found trail))
 
-pub returns : goal.returns
-returns c =
-    ends_at c.args.self.now.net.now c.args.self.now.to AnyArc
-    (IsTrail c.args.self.now.net.now c.args.self.now.to AnyArc c.args.self.now.source.now.router.0 c.args.links.now c.args.self.now.target.now.router.0)
-    c.loop-link.router.0 c.args.links.now c.loop-link.link-index c.args.self.now.target.now.router.0 (omega arith) c.loop-link.invariant
+pub returns-in-None-clause-no : goal.returns-in-None-clause-no
+returns-in-None-clause-no g c off trail = c.in-None.ensures.none c.args.self.now.target.now.router.0 trail

@@ -1,9 +1,0 @@
-use Rattle.std.proofs.Common.{drop}
-use Rattle.std.specs.Prelude.{◌↔◌}
-use Rattle.witness_check.specs.Trails.{IsTrail, AnyArc}
-use Rattle.witness_check.proofs.cases.Case.leads.Given as goal
-
-abbrev pub invariant-loop-link : goal.invariant-loop-link
-invariant-loop-link l =
-    IsTrail l.self.net.now l.self.to AnyArc l.self.source.now.router.0 l.links l.self.target.now.router.0 ↔ IsTrail l.self.net.now l.self.to AnyArc l.router.0
-    (drop l.link-index l.links) l.self.target.now.router.0
