@@ -14,4 +14,4 @@ mod trace;
 
 pub use hops::next_hops;
 pub use routes::distances;
-pub use trace::trace_text;
+pub use trace::{router_name, trace_text};

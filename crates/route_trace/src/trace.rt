@@ -39,14 +39,15 @@ pub fn trace_text(
     let steps = steps(alloc, net, down, host)?;
     let distances = settle(alloc, &steps, net.routers.len(), target.router)?;
     let mut text = Vec::new(alloc);
-    let at_source = name(net, source.router);
-    let at_target = name(net, target.router);
+    let at_source = router_name(net, source.router);
+    let at_target = router_name(net, target.router);
     push_head(alloc, &mut text, &from, at_source, &to, at_target)?;
     push_routes(alloc, &mut text, net, &steps, &distances)?;
     Ok(text)
 }
 
-fn name(net: &Network, router: Router) -> &[u8]
+/// The name of the router, and no bytes where there is no such router.
+pub fn router_name(net: &Network, router: Router) -> &[u8]
     ensures { result.now ≡ traced_name net.now router.0 }
 {
     match net.routers.get(router.0) {
@@ -102,12 +103,18 @@ fn push_routes(
         let router = Router(place);
         let hops = hops(alloc, &groups[place as usize], distances, router)?;
         let distance = distance_of(distances, router);
-        push_line(alloc, text, name(net, router), distance, hops.slice())?;
+        push_line(
+            alloc,
+            text,
+            router_name(net, router),
+            distance,
+            hops.slice(),
+        )?;
     }
     Ok(())
 }
 
-pub(crate) fn push_line(
+fn push_line(
     alloc: Global,
     text: &mut Vec<u8>,
     name: &[u8],

@@ -13,6 +13,6 @@ loop-place-preserved c =
     group_read Tail c.args.steps.now c.len-routers.result c.loop-place.place c.in_ok-groups.groups.items c.index.result.now c.deref.result.now c.in_ok-groups.ensures
     inside c.index.ensures c.deref.ensures.value in
     line_more c.args.net.now c.args.distances.now (hops_of c.args.steps.now (distance_map c.args.distances.now)) c.loop-place.place c.args.text.now.items
-    c.loop-place.text.items c.push_line.new.text.items c.name.result.now c.distance_of-distance.result c.slice.result.now c.loop-place.invariant
-    c.in_ok-push_line.ensures c.name.ensures c.distance_of-distance.ensures
+    c.loop-place.text.items c.push_line.new.text.items c.router_name.result.now c.distance_of-distance.result c.slice.result.now c.loop-place.invariant
+    c.in_ok-push_line.ensures c.router_name.ensures c.distance_of-distance.ensures
     (c.slice.ensures.items ∙ c.in_ok-hops.ensures ∙ hops_of_group c.args.steps.now (distance_map c.args.distances.now) c.loop-place.place c.deref.result.now group)

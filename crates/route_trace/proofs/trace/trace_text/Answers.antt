@@ -26,5 +26,5 @@ returns c =
     c.in_ok-steps.ensures.exact (c.in_ok-distances.ensures.whole ∙ c.len.ensures)
     (subst (λ (xs : List Step). IsStableOver xs c.host_face-target.result.now.router.0 (distance_map c.in_ok-distances.distances.items)) c.deref.ensures.value c.in_ok-distances.ensures.stable)
     (text_from c.args.net.now c.args.from c.args.to c.host_face-source.result.now c.host_face-target.result.now c.in_ok-steps.steps.items c.in_ok-distances.distances.items
-    c.new-text.result.items c.push_head.new.text.items c.push_routes.new.text.items c.name-at_source.result.now c.name-at_target.result.now c.deref-2.result.now c.deref-3.result.now
-    c.new-text.ensures.items c.in_ok-push_head.ensures c.in_ok-push_routes.ensures c.name-at_source.ensures c.name-at_target.ensures c.deref-2.ensures.value c.deref-3.ensures.value)
+    c.new-text.result.items c.push_head.new.text.items c.push_routes.new.text.items c.router_name-at_source.result.now c.router_name-at_target.result.now c.deref-2.result.now c.deref-3.result.now
+    c.new-text.ensures.items c.in_ok-push_head.ensures c.in_ok-push_routes.ensures c.router_name-at_source.ensures c.router_name-at_target.ensures c.deref-2.ensures.value c.deref-3.ensures.value)
