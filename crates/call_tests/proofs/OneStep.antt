@@ -1,5 +1,5 @@
 -- A step adds one clause at most.
-use Rattle.std.proofs.Common.{◌≤◌, List, [], ◌∷◌, arith}
+use Rattle.std.proofs.Common.{◌≤◌, [], ◌∷◌, arith}
 use Rattle.proof_log.specs.declared.steps.Step.{Step}
 use Rattle.proof_log.specs.declared.steps.Step.TheVariants.{Add, Drop, Bound}
 use Rattle.clean_logs.specs.CleanLogs.{additions}

@@ -1,12 +1,16 @@
 //! The edits of the two routers, their repair formula, their cheapest repair and a report on them,
 //! as they were worked out by hand.
+ghost use Rattle.std.specs.Prelude.{◌<◌, length};
 
 use crate::pairs::two_routers;
+use arc_base::List;
 use arc_repair::{Answer, Check, Made, repair};
 use cnf_types::Clause;
-use edit_list::{Claim, edits};
-use policy_encode::encode;
+use edit_list::{Claim, Edit, edits};
+use net_model::Network;
+use policy_encode::{Encoded, encode};
 use policy_report::{edit_line, edit_text};
+use proof_log::Log;
 use report_check::check_report;
 use std::alloc::Global;
 use std::test::Fail;
@@ -21,17 +25,31 @@ Some(4) edit packet r2 interface GigabitEthernet0/0 10.1.0.0/24 10.2.0.0/24
 Some(5) edit packet r2 interface GigabitEthernet0/1 10.1.0.0/24 10.2.0.0/24
 ";
 
-/// All edits, a line each: which one the text of each names, and that text.
+/// Appends a line: which edit the text of this one names, and that text.
+fn push_edit(
+    alloc: Global,
+    texts: &mut Vec<u8>,
+    net: &Network,
+    list: &List<Edit>,
+    at: u32,
+) -> Result<(), Fail>
+    requires { at < length list.now }
+{
+    let text = edit_text(alloc, net, list, at)?;
+    let named = edit_line(alloc, net, list, &text)?;
+    texts.extend_from_slice(format!(in alloc; "{named:?} ")?.as_bytes())?;
+    texts.extend_from_slice(&text)?;
+    texts.push(b'\n')?;
+    Ok(())
+}
+
+/// All edits, a line each.
 fn edit_texts(alloc: Global) -> Result<Vec<u8>, Fail> {
     let pair = two_routers(alloc)?;
     let list = edits(alloc, &pair.net, &pair.doc)?;
     let mut texts = Vec::new(alloc);
     for at in 0..list.len() {
-        let text = edit_text(alloc, &pair.net, &list, at)?;
-        let named = edit_line(alloc, &pair.net, &list, &text)?;
-        texts.extend_from_slice(format!(in alloc; "{named:?} ")?.as_bytes())?;
-        texts.extend_from_slice(&text)?;
-        texts.push(b'\n')?;
+        push_edit(alloc, &mut texts, &pair.net, &list, at)?;
     }
     Ok(texts)
 }
@@ -73,11 +91,8 @@ fn line(alloc: Global, clause: &Clause) -> Result<String, Fail> {
     Ok(text)
 }
 
-/// The repair formula for price 0 alone.
-fn formula_text(alloc: Global) -> Result<String, Fail> {
-    let pair = two_routers(alloc)?;
-    let list = edits(alloc, &pair.net, &pair.doc)?;
-    let it = encode(alloc, &pair.net, &pair.doc, &list, 0)?;
+/// A formula: its variables, those at which the price ends, and a line for each clause.
+fn shown(alloc: Global, it: &Encoded) -> Result<String, Fail> {
     let mut text = format!(in alloc; "{} variables, tops {:?}", it.formula.vars, it.tops)?;
     for clause in it.formula.clauses.slice() {
         text.push_str(&line(alloc, clause)?)?;
@@ -85,10 +100,27 @@ fn formula_text(alloc: Global) -> Result<String, Fail> {
     Ok(text)
 }
 
+/// The repair formula for price 0 alone.
+fn formula_text(alloc: Global) -> Result<String, Fail> {
+    let pair = two_routers(alloc)?;
+    let list = edits(alloc, &pair.net, &pair.doc)?;
+    shown(alloc, &encode(alloc, &pair.net, &pair.doc, &list, 0)?)
+}
+
 #[test]
 fn the_formula_has_these_clauses(rt: HostRuntime) -> Result<(), Fail> {
     assert_eq!(rt; formula_text(rt.alloc())?.as_str(), FORMULA);
     Ok(())
+}
+
+/// Whether the claim of the check is accepted with this log.
+fn is_accepted(check: &mut Check, log: &Log) -> bool {
+    for step in log.steps.slice() {
+        if check.step(step).is_err() {
+            return false;
+        }
+    }
+    check.accepted()
 }
 
 /// The price of the cheapest repair, and whether it is accepted with its log.
@@ -103,12 +135,7 @@ fn repaired(alloc: Global) -> Result<(u32, bool), Fail> {
     let Made::Good(mut check) = Check::make(alloc, &pair.net, &pair.doc, &claim)? else {
         return Err(Fail::from("a wrong claim"));
     };
-    for step in log.steps.slice() {
-        if check.step(step).is_err() {
-            return Ok((*price, false));
-        }
-    }
-    Ok((*price, check.accepted()))
+    Ok((*price, is_accepted(&mut check, &log)))
 }
 
 /// A list at one interface is enough, or a session that is turned.

@@ -1,31 +1,21 @@
 //! A search over the eight clauses with three literals over three variables, and one clause more,
 //! which its log adds 1,499 times again.
 ghost use Rattle.clean_logs.specs.CleanLogs.{additions};
+ghost use Rattle.clean_logs.specs.Laws.{HasItsVariables};
 ghost use Rattle.proof_check.specs.Logs.{adds_empty};
 ghost use Rattle.sat_core.specs.Trails.{IsOf};
 ghost use Rattle.std.specs.List.{list_any};
 ghost use Rattle.std.specs.Prelude.{◌≡◌, ◌+◌, ◌≤◌, ◌<◌, ◌^◌, All, length, IfOk, OnOk, IsFalse};
 
+use arc_base::limits::VARIABLE_LIMIT;
 use arc_base::{List, Memory};
-use cnf_types::{Clause, Formula, Lit};
+use cnf_types::{Formula, Lit, formula};
 use proof_check::Checker;
 use proof_log::{Log, Step};
 use sat_core::Core;
-use sat_search::{Found, search};
+use sat_search::{Found, core_of, search};
 use std::alloc::Global;
 use std::test::Fail;
-
-const A: Lit = Lit { code: 2 };
-
-const NOT_A: Lit = Lit { code: 3 };
-
-const B: Lit = Lit { code: 4 };
-
-const NOT_B: Lit = Lit { code: 5 };
-
-const C: Lit = Lit { code: 6 };
-
-const NOT_C: Lit = Lit { code: 7 };
 
 const D: Lit = Lit { code: 8 };
 
@@ -33,27 +23,17 @@ const E: Lit = Lit { code: 10 };
 
 const F: Lit = Lit { code: 12 };
 
-/// A clause of three literals.
-fn clause(alloc: Global, lits: [Lit; 3]) -> Result<Clause, Memory> {
-    Ok(Clause {
-        lits: List::of(Vec::from_slice(alloc, &lits)?)?,
-    })
-}
-
-/// The formula of all clauses over three variables, and of D or E or F.
-fn formula(alloc: Global) -> Result<Formula, Memory> {
-    let mut clauses = List::make(alloc);
-    clauses.push(clause(alloc, [A, B, C])?)?;
-    clauses.push(clause(alloc, [A, B, NOT_C])?)?;
-    clauses.push(clause(alloc, [A, NOT_B, C])?)?;
-    clauses.push(clause(alloc, [A, NOT_B, NOT_C])?)?;
-    clauses.push(clause(alloc, [NOT_A, B, C])?)?;
-    clauses.push(clause(alloc, [NOT_A, B, NOT_C])?)?;
-    clauses.push(clause(alloc, [NOT_A, NOT_B, C])?)?;
-    clauses.push(clause(alloc, [NOT_A, NOT_B, NOT_C])?)?;
-    clauses.push(clause(alloc, [D, E, F])?)?;
-    Ok(Formula { vars: 6, clauses })
-}
+const FORMULA: &str = "p cnf 6 9
+1 2 3 0
+1 2 -3 0
+1 -2 3 0
+1 -2 -3 0
+-1 2 3 0
+-1 2 -3 0
+-1 -2 3 0
+-1 -2 -3 0
+4 5 6 0
+";
 
 /// Adds a clause to a core under the next id.
 fn put(core: &mut Core, lits: &[Lit]) -> Result<(), Memory>
@@ -72,26 +52,6 @@ fn put(core: &mut Core, lits: &[Lit]) -> Result<(), Memory>
     Ok(())
 }
 
-/// A core with the clauses of the formula.
-fn core(alloc: Global) -> Result<Core, Memory>
-    ensures level { IfOk result (λ core. core.level ≡ 0) }
-    ensures vars { IfOk result (λ core. core.vars ≡ 6) }
-    ensures last_id { IfOk result (λ core. core.last_id ≡ 9) }
-    ensures known { IfOk result (λ core. All (λ c. c.id ≤ core.last_id) core.clauses) }
-{
-    let mut core = Core::make(alloc, 6)?;
-    put(&mut core, &[A, B, C])?;
-    put(&mut core, &[A, B, NOT_C])?;
-    put(&mut core, &[A, NOT_B, C])?;
-    put(&mut core, &[A, NOT_B, NOT_C])?;
-    put(&mut core, &[NOT_A, B, C])?;
-    put(&mut core, &[NOT_A, B, NOT_C])?;
-    put(&mut core, &[NOT_A, NOT_B, C])?;
-    put(&mut core, &[NOT_A, NOT_B, NOT_C])?;
-    put(&mut core, &[D, E, F])?;
-    Ok(core)
-}
-
 /// A step that adds the last clause again.
 fn again(alloc: Global, id: u64) -> Result<Step, Memory>
     ensures { IfOk result (λ step. IsFalse (adds_empty step)) }
@@ -104,14 +64,19 @@ fn again(alloc: Global, id: u64) -> Result<Step, Memory>
 }
 
 /// The log that adds the last clause 1,499 times again, and the core with all these clauses.
-fn core_and_log(alloc: Global) -> Result<(Core, Log), Memory>
+fn core_and_log(alloc: Global, formula: &Formula) -> Result<(Core, Log), Memory>
+    requires variables { HasItsVariables formula.now }
+    requires few { formula.now.vars ≤ VARIABLE_LIMIT }
     ensures level { IfOk result (λ r. r.0.level ≡ 0) }
     ensures last_id { IfOk result (λ r. r.0.last_id ≤ 2000) }
     ensures room { IfOk result (λ r. additions r.1.steps < 2000) }
     ensures filled { IfOk result (λ r. IsFalse (list_any adds_empty r.1.steps)) }
     ensures short { IfOk result (λ r. length r.1.steps < 2 ^ 31) }
 {
-    let mut core = core(alloc)?;
+    let mut core = core_of(alloc, formula)?;
+    if core.vars() != 6 || core.last_id() != 9 {
+        return Err(Memory);
+    }
     let mut log = Log {
         steps: List::make(alloc),
     };
@@ -151,8 +116,8 @@ fn is_accepted(alloc: Global, formula: &Formula, log: &Log) -> Result<bool, Memo
 #[test]
 fn lemmas_are_dropped_after_1500(rt: HostRuntime) -> Result<(), Fail> {
     let alloc = rt.alloc();
-    let formula = formula(alloc)?;
-    let (mut core, mut log) = core_and_log(alloc)?;
+    let formula = formula(alloc, FORMULA.as_bytes())?;
+    let (mut core, mut log) = core_and_log(alloc, &formula)?;
     let found = search(alloc, &mut core, &mut log, 2000)?;
     assert!(rt; matches!(found, Found::Refuted));
     assert!(rt; drops_old(log.steps.slice()));
