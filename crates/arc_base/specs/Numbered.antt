@@ -1,4 +1,4 @@
--- Things that each have a number, as that of a router or of a list, and lists that go together row
+-- Items with numbers, such as that of a router or of a list, and lists that go together row
 -- by row.
 use Rattle.std.specs.Prelude.{◌≡◌, ◌==◌, ℕ, map, Bool, true, false, [], ◌∷◌, Option, Some, None}
 use Rattle.std.specs.Prelude.{List, length, slice_get, if◌then◌else◌}
@@ -8,15 +8,15 @@ use Rattle.std.specs.List.{filter_map, flat_map, range_with_len, zip}
 abbrev pub placed : {X : Type 0} → List X → List (ℕ × X)
 placed xs = zip (range_with_len 0 (length xs)) xs
 
--- the thing, if it has this number
+-- the item, if it has this number
 abbrev pub if_number : {X : Type 0} → ℕ → ℕ × X → Option X
 if_number number thing = if thing.0 == number then Some thing.1 else None
 
--- the things with this number, in their order
+-- the items with this number, in their order
 abbrev pub of_number : {X : Type 0} → ℕ → List (ℕ × X) → List X
 of_number number things = filter_map (if_number number) things
 
--- the things with a number below the count: those with the number 0, then those with 1, and so on,
+-- the items with a number below the count: those with the number 0, then those with 1, and so on,
 -- each in their order
 abbrev pub by_number : {X : Type 0} → ℕ → List (ℕ × X) → List X
 by_number count things = flat_map (λ number. of_number number things) (range_with_len 0 count)

@@ -36,6 +36,6 @@ pub enum CertKind {
     BoundTooHigh,
     /// The claim needs an empty clause, and none was accepted.
     NotRefuted,
-    /// Want of memory.
+    /// Out of memory.
     Memory,
 }

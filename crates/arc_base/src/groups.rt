@@ -26,7 +26,7 @@ impl<T> Model for Group<T> {
 }
 
 impl<T> Group<T> {
-    /// The things, in their order.
+    /// The items, in their order.
     pub fn slice(&self) -> &[T]
         ensures { result.now ≡ self.now }
     {
@@ -34,7 +34,7 @@ impl<T> Group<T> {
     }
 }
 
-/// So many empty groups.
+/// `count` empty groups.
 pub fn empty_groups<T>(alloc: Global, count: u32) -> Result<Vec<Group<T>>, Memory>
 where
     T: Drop,
@@ -48,7 +48,7 @@ where
     Ok(groups)
 }
 
-/// Puts a thing at the end of the group with its number, if there is one.
+/// Appends an item to the group of its number, if there is one.
 pub fn add<T>(groups: &mut Vec<Group<T>>, number: u32, thing: T) -> Result<(), Memory>
 where
     T: Drop,
@@ -61,7 +61,7 @@ where
     Ok(())
 }
 
-/// The things with each number below the count.
+/// A group for each number below the count, with the items of that number.
 pub fn grouped<T>(alloc: Global, count: u32, things: &[(u32, T)]) -> Result<Vec<Group<T>>, Memory>
 where
     T: Copy + Drop,
@@ -75,7 +75,7 @@ where
     Ok(groups)
 }
 
-/// The things with a number below the count, by their numbers.
+/// The items with a number below the count, sorted by number; those of one number keep their order.
 pub fn by_number<T>(alloc: Global, count: u32, things: &[(u32, T)]) -> Result<Vec<T>, Memory>
 where
     T: Copy + Drop,
@@ -122,7 +122,7 @@ fn mark(flags: &mut Vec<bool>, at: usize)
     }
 }
 
-/// The things of the group at a place, and none where there is no such group.
+/// The items of the group at a place, and none where there is no such group.
 pub fn things_at<T>(groups: &[Group<T>], at: u32) -> &[T]
     ensures { result.now ≡ unwrap_or (slice_get groups.now at) [] }
 {
@@ -132,7 +132,7 @@ pub fn things_at<T>(groups: &[Group<T>], at: u32) -> &[T]
     }
 }
 
-/// Whether the group at a place has things.
+/// Whether the group at a place has items.
 pub fn is_filled<T>(groups: &[Group<T>], at: u32) -> bool
     ensures { result ≡ not (is_empty (unwrap_or (slice_get groups.now at) [])) }
 {

@@ -54,7 +54,7 @@ pub fn read_prefix(text: &[u8]) -> Option<Prefix>
     Prefix::new(addr, len as u8)
 }
 
-/// Puts a number at the end of a text.
+/// Appends a number in decimal to a text.
 pub fn push_number(alloc: Global, text: &mut Vec<u8>, number: u64) -> Result<(), Memory>
     ensures { OnOk result (text.new.items ≡ text.old.items ++ decimal number) }
 {
@@ -63,7 +63,7 @@ pub fn push_number(alloc: Global, text: &mut Vec<u8>, number: u64) -> Result<(),
     Ok(())
 }
 
-/// Puts an address at the end of a text.
+/// Appends an address in dotted decimal to a text.
 #[tactic(auto, unfolding(std::specs::Net::Addr::IsIpv4OfBits))]
 pub fn push_address(alloc: Global, text: &mut Vec<u8>, address: u32) -> Result<(), Memory>
     ensures { OnOk result (text.new.items ≡ text.old.items ++ address_text address) }
@@ -74,7 +74,7 @@ pub fn push_address(alloc: Global, text: &mut Vec<u8>, address: u32) -> Result<(
     Ok(())
 }
 
-/// Puts a prefix at the end of a text.
+/// Appends a prefix, as `10.0.0.0/8`, to a text.
 pub fn push_prefix(alloc: Global, text: &mut Vec<u8>, prefix: &Prefix) -> Result<(), Memory>
     ensures { OnOk result (text.new.items ≡ text.old.items ++ prefix_text prefix.now) }
 {

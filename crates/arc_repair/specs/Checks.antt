@@ -41,7 +41,7 @@ abbrev pub IsMispriced : Document → List Edit → ℕ → ℕ → List Bool �
 IsMispriced doc list price bound flags =
     (price_of_flags doc list flags ≢ price) ⊎ (bound < price) ⊎ (PRICE_LIMIT < bound)
 
--- the first thing that is wrong with the verdicts on these policies: one is missing or too many,
+-- the first defect of the verdicts on these policies: one is missing or too many,
 -- one is not a yes, or one is not right
 abbrev pub IsVerdictDefect : Network → List Policy → List Verdict → CertKind → Type 0
 IsVerdictDefect net [] [] kind = ⊥
@@ -52,7 +52,7 @@ IsVerdictDefect net (policy ∷ policies) (v ∷ verdicts) kind =
     ((¬ IsFalse (is_yes v)) × (¬ IsRight net policy v) × (kind ≡ kinds.Witness)) ⊎
     (IsRightYes net policy v × IsVerdictDefect net policies verdicts kind)
 
--- the price is right, and this is the first thing that is wrong with the verdicts in the network
+-- the price is right, and this is the first defect of the verdicts in the network
 -- after the edits
 pub record IsMisjudged (net : Network) (doc : Document) (list : List Edit) (price bound : ℕ)
     (flags : List Bool) (verdicts : List Verdict) (kind : CertKind) : Type 0 where
@@ -61,7 +61,7 @@ pub record IsMisjudged (net : Network) (doc : Document) (list : List Edit) (pric
   pub is_after : IsAfter net (chosen_of list flags) after
   pub defect : IsVerdictDefect after doc.policies verdicts kind
 
--- this is the first thing that is wrong with the claim: the price, or else a verdict
+-- this is the first defect of the claim: the price, or else a verdict
 abbrev pub IsDefect : Network → Document → List Edit → Claim → CertKind → Type 0
 IsDefect net doc list (Repaired price bound flags verdicts) kind =
     (IsMispriced doc list price bound flags × (kind ≡ kinds.Price)) ⊎

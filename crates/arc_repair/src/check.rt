@@ -22,7 +22,7 @@ pub struct Check {
 pub enum Made {
     /// Nothing but the log is left to judge.
     Good(Check),
-    /// The first thing that is wrong with the claim.
+    /// The first defect of the claim.
     Bad(CertKind),
 }
 

@@ -48,7 +48,7 @@ pub(crate) fn needs_refutation(claim: &Claim) -> bool
     }
 }
 
-/// The first thing that is wrong with the verdicts on these policies.
+/// The first defect of the verdicts on these policies.
 fn verdict_defect(net: &Network, policies: &[Policy], verdicts: &[Verdict]) -> Option<CertKind>
     requires valid { IsValid net.now }
     requires ends { All (λ policy. HasEnds net.now (subject policy)) policies.now }
@@ -73,7 +73,7 @@ fn verdict_defect(net: &Network, policies: &[Policy], verdicts: &[Verdict]) -> O
     }
 }
 
-/// The first thing that is wrong with the claim of a repair.
+/// The first defect of the claim of a repair.
 fn repair_defect(
     alloc: Global,
     net: &Network,
@@ -103,7 +103,7 @@ fn repair_defect(
     Ok(verdict_defect(&after, doc.policies.slice(), verdicts.slice()))
 }
 
-/// The first thing that is wrong with the claim, whose bound is at most `PRICE_LIMIT`.
+/// The first defect of the claim, whose bound is at most `PRICE_LIMIT`.
 pub(crate) fn defect(
     alloc: Global,
     net: &Network,

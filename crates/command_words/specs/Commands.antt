@@ -129,8 +129,8 @@ command_by kinds.Nodes value = nodes_by value
 command_by kinds.Prefers value = prefers_by value
 command_by kinds.Recheck value = recheck_by value
 
--- A row of the table of commands: which command it is of; its name; what its positional words
--- stand for, in order, each of them required; the options that must be given, and those that may.
+-- A row of the table of commands: the command; its name; what its positional words mean, in order,
+-- each of them required; the options that must be given, and those that may.
 pub record Form : Type 0 where
   pub kind : CommandKind
   pub name : List ℕ

@@ -21,7 +21,7 @@ abbrev pub NextHops : Type 0
 NextHops = Arc → Bool
 
 -- the next hops agree with the model: a router that has a distance sends only over arcs that attain
--- it, and over one or more of them where there are any; what one does that has none is not said
+-- it, and over one or more of them where there are any; a router without one may send anywhere
 pub record AgreesWhereKnown (net : Network) (to : Prefix) (failed : FailureSet) (d : DistanceMap)
     (sends : NextHops) : Type 0 where
   pub only : (arc : Arc) (n : ℕ) → d (tail_router arc) ≡ Some n → IsTrue (sends arc) →

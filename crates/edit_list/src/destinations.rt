@@ -31,7 +31,7 @@ fn contains(prefixes: &[Prefix], prefix: Prefix) -> bool
     prefixes.iter().any(|p| is_same(&prefix, p))
 }
 
-/// Puts a prefix at the end, unless it is there.
+/// Appends a prefix, unless it is there.
 fn add_prefix(prefixes: &mut Vec<Prefix>, prefix: Prefix) -> Result<(), Memory>
     ensures { OnOk result (prefixes.new.items ≡ with_prefix prefixes.old.items prefix) }
 {

@@ -28,7 +28,7 @@ pub enum EditFault {
     /// `EDIT_LIMIT`.
     #[error("{1} pass the limit of {0:?}")]
     Limit(LimitKind, u64),
-    /// Want of memory.
+    /// Out of memory.
     #[error("out of memory")]
     Memory,
 }

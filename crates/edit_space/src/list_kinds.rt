@@ -31,7 +31,7 @@ pub trait KeyedList: Sized + Drop {
     /// What the edit adds to a list that there is, with the place of the list.
     ghost change: { AnyEdit → Option (ℕ × Self.Subject) };
 
-    /// What the edit puts into a new list, with the place of the interface.
+    /// What the edit adds to a new list, with the place of the interface.
     ghost new_change: { AnyEdit → Option (ℕ × Self.Subject) };
 
     /// The lists of the network.

@@ -1,5 +1,5 @@
-//! Breadth-first search for what can be reached over some of a graph's arcs, in time linear in nodes
-//! and arcs.
+//! Breadth-first search for what can be reached over some of a graph's arcs, in time linear in
+//! nodes and arcs.
 ghost use Rattle.graph_flow.specs.Flows.{unit_at};
 ghost use Rattle.graph_flow.specs.Marks.{is_seen, depth_of, mark_at, IsMarked, IsSpread, IsSearch};
 ghost use Rattle.graph_flow.specs.Marks.{Follows, Steps};

@@ -5,13 +5,13 @@ use Rattle.ios_config.specs.declared.settings.Config.{Config}
 use Rattle.arc_base.specs.declared.refusal.Kind.{Kind}
 use Rattle.ios_config.specs.Configs.{IsConfigOf, IsRefused}
 
--- the lines of a text set one thing at most
+-- the lines of a text give at most one configuration
 abbrev pub HasOneConfig : Type 0
 HasOneConfig =
     (text : List ℕ) (lines : Lines) (config other : Config) → IsConfigOf text lines config →
     IsConfigOf text lines other → config ≡ other
 
--- a file is refused for one thing at most
+-- a file is refused for at most one reason
 abbrev pub HasOneRefusal : Type 0
 HasOneRefusal =
     (text : List ℕ) (lines : Lines) (number other : ℕ) (kind last : Kind) →

@@ -1,4 +1,4 @@
--- The commands of a file of which one line says another thing.
+-- The commands of a file after one line was replaced.
 use Rattle.std.specs.Prelude.{◌≡◌, ℕ, ◌+◌, false, List, ◌∷◌, ◌++◌, slice_get, Some}
 use Rattle.ios_lines.specs.declared.line.Lines.{Lines}
 use Rattle.ios_lines.specs.Lines.{AreLinesOf}

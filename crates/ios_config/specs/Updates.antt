@@ -6,7 +6,7 @@ use Rattle.ios_config.specs.declared.settings.FaceText.{FaceText}
 use Rattle.ios_config.specs.Values.{given_at, address, mask_length, shut_down, bandwidth, ospf_cost}
 use Rattle.ios_config.specs.Values.{ospf_area, point_to_point, inbound, outbound}
 
--- the value that is said at this line, or the one before where nothing is said
+-- the value that this line sets, or the one before where it sets none
 abbrev pub replaced : {V : Type 0} → ℕ → Option (Option V) → Option (Given V) → Option (Given V)
 replaced line None before = before
 replaced line (Some said) before = given_at line (Some said)

@@ -13,7 +13,7 @@ use Rattle.ios_config.specs.declared.settings.Given.{Given}
 abbrev pub Says : Type 0 → Type 0
 Says V = Command → Option (Option V)
 
--- the value that is said so at this line, if there is one
+-- the value that this line sets, if it sets one
 abbrev pub given_at : {V : Type 0} → ℕ → Option (Option V) → Option (Given V)
 given_at line (Some (Some value)) = Some (record { value = value; line = line })
 given_at line (Some None) = None

@@ -21,7 +21,7 @@ ghost use Rattle.ios_config.specs.ProcessLines.{ProcessesHaveBlocks, ProcessLine
 ghost use Rattle.ios_config.specs.Replaced.{AReplacedLineHasAnotherCommand};
 ghost use Rattle.ios_config.specs.ReplacedIn.{AReplacedLineIsIn};
 
-/// The lines of a text set one thing at most.
+/// The lines of a text give at most one configuration.
 pub fn config_is_unique()
     ensures { HasOneConfig }
 {}

@@ -32,12 +32,12 @@ masks = map mask (range_with_len 0 33)
 abbrev pub mask_ones : ℕ → Option ℕ
 mask_ones addr = position (λ m. m == addr) masks
 
--- a number of ones, where it is at least so much; where it is none the address is no mask
+-- a number of ones, where it is at least `least`; without one the address is no mask
 abbrev pub length_from : ℕ → Option ℕ → Result ℕ Flaw
 length_from least None = Err Scattered
 length_from least (Some ones) = if nat_le least ones then Ok ones else Err Amiss
 
--- the length of the mask that an address is, at least so much
+-- the length of the mask that an address is, at least `least`
 abbrev pub mask_of_address : ℕ → Option ℕ → Result ℕ Flaw
 mask_of_address least None = Err Amiss
 mask_of_address least (Some addr) = length_from least (mask_ones addr)

@@ -22,8 +22,8 @@ abbrev pub trial_of : Option (Result Found WordFault) → Option (Result Values 
 trial_of None = None
 trial_of (Some result) = Some (line_values result)
 
--- what is said after a trial: the row's command, or what the rows after it say; the first fault
--- stays
+-- the result after a trial: the row's command, or the result of the rows after it; the first fault
+-- is kept
 abbrev pub choose : Meaning → (Option WordFault → Result Command WordFault) → Option WordFault →
     Option (Result Values WordFault) → Result Command WordFault
 choose meaning go fault None = go fault

@@ -14,7 +14,7 @@ HasWritable (Entry order entry) = IsWritable entry
 HasWritable (ListLine name entry) = IsWritable entry
 HasWritable other = Unit {0}
 
--- the services of each entry that is read can be said by one
+-- the services of each entry that is read can be written in one entry
 abbrev pub ReadEntriesAreWritable : Type 0
 ReadEntriesAreWritable =
     (within : BlockKind) (ws : List (List ℕ)) (command : Command) →

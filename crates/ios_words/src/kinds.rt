@@ -25,7 +25,7 @@ pub enum WordFault {
     BadWord(u32),
     /// A mask or wildcard is an address, but not contiguous.
     WildcardNotPrefix,
-    /// Want of memory.
+    /// Out of memory.
     Memory,
 }
 

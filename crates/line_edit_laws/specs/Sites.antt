@@ -58,7 +58,7 @@ abbrev pub chunk_commands : Chunk → List FileCommand
 chunk_commands (Single w) = in_block 0 w ∷ []
 chunk_commands (NewBlock key head rest close) = in_block key head ∷ map (in_block key) rest
 
--- a command that says another thing
+-- a line with another command
 abbrev pub says_other : FileCommand → Command → FileCommand
 says_other c command = record { line = c.line; block = c.block; command = command }
 

@@ -43,7 +43,7 @@ pub record IsFileOf (built : Built) (router : ℕ) (text : List ℕ) : Type 0 wh
   pub lined : router < length built.lines
   pub lines : (lines : Lines) → slice_get built.lines router ≡ Some lines → AreLinesOf text lines
 
--- whether a list with its own router is one of this router to which things are added
+-- whether a list with its own router is one of this router, to which something is added
 abbrev pub is_edited : {X : Type 0} → ℕ → ℕ → List X → Bool
 is_edited own router things = not (is_empty things) && (own == router)
 

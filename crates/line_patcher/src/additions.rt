@@ -38,7 +38,7 @@ fn all_at(alloc: Global, number: u32, commands: Vec<Command>) -> Result<Vec<(u32
     Ok(all)
 }
 
-/// Adds the thing, if there is one.
+/// Appends the item, if there is one.
 pub fn push_some<T>(things: &mut Vec<T>, thing: Option<T>) -> Result<(), Memory>
 where
     T: Drop,

@@ -28,7 +28,7 @@ pub fn files_have_one_answer()
         IsNetworkWithin down most doc files net → IsFirstRefusalWithin down most doc files r → ⊥ }
 {}
 
-/// No refusal here says that a file is missing or too long: whoever reads the files reports that.
+/// No refusal here says that a file is missing or too long: the reader of the files reports that.
 pub fn refusals_are_of_what_files_say()
     ensures never_missing { (down : List ℕ) (most : ℕ) (doc : Document) (files : List (List ℕ))
         (r : Refusal) → IsFirstRefusalWithin down most doc files r → r.kind ≡ kinds.Missing → ⊥ }

@@ -9,7 +9,7 @@ use Rattle.ios_config.specs.declared.settings.Config.{Config}
 use Rattle.net_rules.specs.Settings.{lines_of}
 use Rattle.net_rules.specs.Neighbors.{remote_of}
 
--- what was found is the only thing with the property, or there is none
+-- what was found is the only item with the property, or there is none
 abbrev pub FindsOnly : {X : Type 0} → (X → Type 0) → Option X → Type 0
 FindsOnly {X} P found = MatchOption found ((x : X) → ¬ P x) (λ x. P x × ((y : X) → P y → x ≡ y))
 

@@ -83,7 +83,7 @@ data_routers d = do
 abbrev pub data_end : List ℕ → Option (List ℕ × List ℕ)
 data_end text = cut_at 58 text
 
--- whether a link is a waypoint, which it is not where nothing is said
+-- whether a link is a waypoint: by default it is not
 abbrev pub waypoint_of : Data → Option Bool
 waypoint_of d = or_default false as_bool (get (codes "waypoint") d)
 
@@ -135,7 +135,7 @@ weight_from d = do
   weight ← option_and_then as_u64 (as_number d)
   where_true (nat_le 1 weight && nat_le weight WEIGHT_LIMIT) weight
 
--- the weight under the name, which is 1 where nothing is said
+-- the weight under the name, by default 1
 abbrev pub weight_under : List ℕ → Data → Option ℕ
 weight_under name d = or_default 1 weight_from (get name d)
 
@@ -148,7 +148,7 @@ weights_from d = do
   where_true (has_only weight_members d)
       (record { list = list; filter = filter; session = session })
 
--- where nothing is said of it, each edit costs 1
+-- by default each edit costs 1
 abbrev pub unit_weights : Weights
 unit_weights = record { list = 1; filter = 1; session = 1 }
 

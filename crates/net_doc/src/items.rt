@@ -108,7 +108,7 @@ fn read_link(alloc: Global, value: &Value) -> Result<Option<LinkText>, Memory>
     }))
 }
 
-/// Whether the link is a waypoint, which it is not where nothing is said.
+/// Whether the link is a waypoint: by default it is not.
 fn read_waypoint(value: &Value) -> Option<bool>
     ensures { result ≡ waypoint_of (view value.now) }
 {

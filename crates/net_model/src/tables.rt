@@ -81,7 +81,7 @@ impl Network {
     }
 }
 
-/// Puts the place in where there is none yet.
+/// Sets the place where none is set yet.
 fn keep_first(places: &mut [Option<u32>], at: usize, place: u32)
     ensures len { length places.new ≡ length places.old }
     ensures each { (k : ℕ) → k < length places.old →

@@ -1,7 +1,7 @@
--- Lists that hold just the things with a property, in an order.
+-- Lists that hold just the items with a property, in an order.
 use Rattle.std.specs.Prelude.{◌≡◌, ◌↔◌, ℕ, ◌<◌, ◌⊎◌, List, AllPairs, Contains}
 
--- the list is in this order, and holds just the things that have the property
+-- the list is in this order, and holds just the items that have the property
 pub record AreInOrder {X : Type 0} (IsBefore : X → X → Type 0) (P : X → Type 0)
     (xs : List X) : Type 0 where
   pub order : AllPairs IsBefore xs

@@ -46,7 +46,7 @@ abbrev pub IsSubnet : Option (ℕ × ℕ) → Option Prefix → Type 0
 IsSubnet None subnet = subnet ≡ None
 IsSubnet (Some address) subnet = IsSomeAnd subnet (IsPrefixAt address.0 address.1)
 
--- OSPF advertises a loopback's own address alone, unless the interface is said to be point-to-point
+-- OSPF advertises a loopback's own address alone, unless the interface is set to point-to-point
 abbrev pub is_host_route : Protocol → FaceText → Bool
 is_host_route Ospf face =
     if is_loopback (face_kind face.name) then not (unwrap_or (value face.point) false) else false

@@ -1,4 +1,4 @@
--- Clauses one behind another among literals.
+-- Clauses one after another among literals.
 use Rattle.std.specs.Prelude.{ℕ, ◌-◌, ◌<◌, ◌≤◌, ◌^◌, All, List, length, take, drop}
 use Rattle.cnf_types.specs.declared.literal.Lit.{Lit}
 use Rattle.cnf_types.specs.declared.clauses.Clause.{Clause}

@@ -1,4 +1,4 @@
-//! Clauses whose literals are one behind another in one vector.
+//! Clauses whose literals are one after another in one vector.
 ghost use Rattle.std.specs.Prelude.{◌≡◌, ◌<◌, ◌^◌, ◌++◌, [], ◌∷◌, length, slice_get, Some, IfOk};
 ghost use Rattle.std.specs.Prelude.{OnOk, OnErr};
 

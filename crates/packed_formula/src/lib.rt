@@ -1,4 +1,4 @@
-//! A formula whose literals are one behind another in one vector, so that a clause takes little
+//! A formula whose literals are one after another in one vector, so that a clause takes little
 //! more memory than its literals, and all of it is given back at once. Contracts see the formula.
 #![tactic(auto)]
 

@@ -49,7 +49,7 @@ with_clause clause id lits j = if id == j then Some lits else clause j
 abbrev pub without_clauses : (ℕ → Option (List Lit)) → List ℕ → ℕ → Option (List Lit)
 without_clauses clause ids j = if list_any (λ id. id == j) ids then None else clause j
 
--- the clause "the price is at most so much"
+-- the clause "the price is at most `price`"
 abbrev pub bound_clause : List Lit → ℕ → List Lit
 bound_clause tops price = map negated (option_to_list (slice_get tops price))
 

@@ -1,4 +1,4 @@
--- Clauses one behind another among literals.
+-- Clauses one after another among literals.
 use Rattle.std.specs.Prelude.{◌≡◌, ℕ, ◌+◌, ◌-◌, ◌/◌, ◌<◌, ◌≤◌, ◌==◌, max, if◌then◌else◌, All, List}
 use Rattle.std.specs.Prelude.{[], ◌∷◌, length, take, drop, sum_by, Option, Some, None}
 use Rattle.cnf_types.specs.declared.literal.Lit.{Lit}

@@ -181,7 +181,7 @@ impl Checker {
         Ok(())
     }
 
-    /// Adds the clause that the price is at most so much.
+    /// Adds the clause that the price is at most `price`.
     fn bound(&mut self, id: u64, price: u32) -> Result<(), StepFault>
         ensures ok { OnOk result (step_fault (known self.old) (Step.Bound id price) ≡ None) }
         ensures after { OnOk result

@@ -36,7 +36,7 @@ impl Flags {
         })
     }
 
-    /// Clears all flags, in constant time but once in 2^32 calls.
+    /// Clears all flags in constant time, except for one in 2^32 calls, which takes linear time.
     pub fn clear(&mut self)
         ensures { self.new ≡ replicate (length self.old) false }
     {

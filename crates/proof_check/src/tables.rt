@@ -1,4 +1,4 @@
-//! Clauses in the rows of a table, whose literals are one behind another in one vector.
+//! Clauses in the rows of a table, whose literals are one after another in one vector.
 ghost use Rattle.proof_check.specs.Places.{nowhere, size, clause_at, IsPlace, IsRising};
 ghost use Rattle.proof_check.specs.Rows.{row_size};
 ghost use Rattle.std.specs.Prelude.{◌≡◌, ◌≤◌, ◌<◌, ◌+◌, ◌-◌, ◌++◌, [], ◌∷◌, All, length, map, max};

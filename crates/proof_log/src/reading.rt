@@ -33,7 +33,7 @@ impl From<Memory> for LineKind {
 
 /// Replaces the numbers by those of a line of a proof log, and gives its sign; `None` is a comment,
 /// which begins with `c`, or an empty line. The line is given without its line feed; a carriage
-/// return may end it. Whether the numbers have one of the three forms is not said yet.
+/// return may end it. Whether the numbers have one of the three forms is not checked.
 #[tactic(auto, unfolding(crate::specs::Reading::reading))]
 pub fn line_numbers(numbers: &mut Vec<i64>, line: &[u8]) -> Result<Option<Sign>, LineKind>
     ensures none { IfOk result (λ sign. IsNone sign → reading line.now ≡ Ok None) }

@@ -17,7 +17,7 @@ pub enum Step {
     Drop {
         ids: List<u64>,
     },
-    /// The claim, under an id, that the price is at most so much.
+    /// The claim, under an id, that the price is at most `price`.
     Bound {
         id: u64,
         price: u32,

@@ -1,5 +1,5 @@
--- That no gap is left between a network and a first refusal. Each says of two things that they
--- cannot both be missing.
+-- That no gap is left between a network and a first refusal: each definition says that of two
+-- things one is there.
 use Rattle.std.specs.Prelude.{ℕ, List}
 use Rattle.std.specs.List.{AllZip}
 use Rattle.arc_base.specs.declared.refusal.Kind.{Kind}

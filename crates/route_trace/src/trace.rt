@@ -84,7 +84,7 @@ fn push_end(alloc: Global, text: &mut Vec<u8>, prefix: &Prefix, name: &[u8]) -> 
     Ok(())
 }
 
-/// Puts the lines of all routers at the end.
+/// Appends the lines of all routers.
 fn push_routes(
     alloc: Global,
     text: &mut Vec<u8>,

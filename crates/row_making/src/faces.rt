@@ -120,7 +120,7 @@ fn tells(protocol: Protocol, index: &ProcessIndex<'_>, host: &Option<Prefix>, en
     }
 }
 
-/// What the row of an interface is made from besides its file.
+/// What the row of an interface is made from, apart from its file.
 #[derive(Clone, Copy)]
 pub struct Surroundings<'a> {
     pub protocol: Protocol,

@@ -1,5 +1,5 @@
-//! The links of the document: the interfaces that they join, and those that are to be down, by their
-//! numbers.
+//! The links of the document: the interfaces that they join, and the numbers of those that are to
+//! be down.
 ghost use Rattle.net_rules.specs.Linking.{JoinsNamed, RefusesLinkFace, RefusesDownLinks};
 ghost use Rattle.net_rules.specs.Linking.{first_above};
 ghost use Rattle.net_rules.specs.Names.{names_at};

@@ -90,7 +90,7 @@ fn note_passive<'a>(
     }
 }
 
-/// Notes what the command says of passive interfaces, in place of what was said before.
+/// Notes what the command sets for passive interfaces, in place of what was set before.
 fn add_passive<'a>(passive: &mut PassiveIndex<'a>, command: &'a Command) -> Result<(), Memory>
     ensures { IfOk result (λ done. (name : List ℕ) → said_of passive.new name
         ≡ option_or (says_passive name command.now) (said_of passive.old name)) }

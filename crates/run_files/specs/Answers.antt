@@ -10,8 +10,8 @@ use Rattle.run_files.specs.declared.outcome.Reason.TheVariants as reasons
 use Rattle.run_files.specs.declared.outcome.Stop.{Stop}
 use Rattle.run_files.specs.declared.outcome.Stop.TheVariants as stops
 
--- The answer is a right value or the first refusal. Want of memory or a failure of the store may
--- come in place of either.
+-- The answer is a right value or the first refusal; in place of either, memory may run out or the
+-- store may fail.
 abbrev pub Gives : {X : Type 0} → (FileRefusal → Type 0) → (X → Type 0) → Result X Stop → Type 0
 Gives IsRefusal IsRight (Ok x) = IsRight x
 Gives IsRefusal IsRight (Err (stops.Refused r)) = IsRefusal r

@@ -43,7 +43,7 @@ pub struct Done {
 #[derive(Drop)]
 pub enum Stop {
     Refused(FileRefusal),
-    /// Want of memory.
+    /// Out of memory.
     Memory,
     /// The store failed.
     Failed,

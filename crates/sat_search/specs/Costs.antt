@@ -63,7 +63,7 @@ cost_of lemmas used s at =
     option_map (cost_at lemmas.levels.items used)
     (dropping_place lemmas.ids.items (length used) s at)
 
--- whether there is a cost, and it is so much at least
+-- whether there is a cost, and it is at least `least`
 abbrev pub is_as_much : ℕ → Option ℕ → Bool
 is_as_much least None = false
 is_as_much least (Some cost) = nat_le least cost
@@ -72,7 +72,7 @@ is_as_much least (Some cost) = nat_le least cost
 abbrev pub one_if : Bool → ℕ
 one_if test = if test then 1 else 0
 
--- 1 where a cost is so much at least
+-- 1 where a cost is at least `least`
 abbrev pub counts : ℕ → ℕ → ℕ
 counts least cost = one_if (nat_le least cost)
 
@@ -81,7 +81,7 @@ abbrev pub count_below : (ℕ → Bool) → ℕ → ℕ
 count_below test zero = 0
 count_below test (suc n) = count_below test n + one_if (test n)
 
--- how many of the first clauses may be dropped and cost so much at least
+-- how many of the first clauses may be dropped and cost at least `least`
 abbrev pub costing : Lemmas → List Bool → ℕ → State → ℕ → ℕ
 costing lemmas used least s = count_below (λ at. is_as_much least (cost_of lemmas used s at))
 

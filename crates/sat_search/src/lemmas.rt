@@ -251,7 +251,7 @@ impl Lemmas {
         Ok(ids)
     }
 
-    /// Forgets a clause that may be dropped and costs so much at least.
+    /// Forgets a clause that may be dropped and costs at least `least`.
     fn forget(
         &self,
         core: &mut Core,

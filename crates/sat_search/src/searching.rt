@@ -158,7 +158,7 @@ pub fn search_first<L: Listener>(
     found
 }
 
-/// Tells the listener of each hundredth conflict.
+/// Reports each hundredth conflict to the listener.
 fn report<L: Listener>(listener: &mut L, conflicts: u64) {
     if conflicts % 100 == 0 {
         listener.heard(Work::Searching { conflicts });

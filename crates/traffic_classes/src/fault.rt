@@ -9,7 +9,7 @@ pub enum ClassFault {
     /// There are this many, more than `CLASS_LIMIT`. The number saturates at 64 bits.
     #[error("{0} traffic classes are too many")]
     TooMany(u64),
-    /// Want of memory.
+    /// Out of memory.
     #[error("out of memory")]
     Memory,
 }

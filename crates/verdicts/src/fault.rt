@@ -10,7 +10,7 @@ pub enum JudgeFault {
     /// The policy has this many traffic classes, more than `CLASS_LIMIT`.
     #[error("{0} traffic classes are too many")]
     TooMany(u64),
-    /// Want of memory.
+    /// Out of memory.
     #[error("out of memory")]
     Memory,
 }
