@@ -18,7 +18,7 @@ pub enum Operation {
     Writing,
 }
 
-/// What failed: which file was read or written, and what the system said. Where a write was refused
+/// What failed: which file was read or written, and the system's error. Where a write was refused
 /// because the file had been read, also the name by which it was.
 #[derive(Drop)]
 pub struct Failure {

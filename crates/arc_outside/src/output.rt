@@ -26,7 +26,7 @@ impl<R> StdSink<R> {
         }
     }
 
-    /// What the system said last where it did not take a piece.
+    /// The system's error when it last refused a piece.
     pub fn failure(&self) -> Option<io::Error> {
         self.failure
     }

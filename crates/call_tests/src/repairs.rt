@@ -145,7 +145,7 @@ fn the_cheapest_repair_is_accepted(rt: HostRuntime) -> Result<(), Fail> {
     Ok(())
 }
 
-/// What a text is judged to as a report.
+/// The outcome of judging a text as a report.
 fn judged(alloc: Global, text: &str) -> Result<String, Fail> {
     let pair = two_routers(alloc)?;
     let outcome = check_report(alloc, &pair.net, &pair.doc, text.as_bytes())?;

@@ -58,7 +58,7 @@ fn list_changes<L: KeyedList>(
     Ok(edits.iter().filter_map(|e| L::change(e)).collect(alloc)?)
 }
 
-/// What the edits put into new lists, each with the place of its interface.
+/// What the edits add to new lists, each with the place of its interface.
 fn new_changes<L: KeyedList>(
     alloc: Global,
     edits: &[Edit],

@@ -5,7 +5,7 @@ ghost use Rattle.generated_network_laws.specs.Laws.{GeneratedDocumentsHaveTheirP
 ghost use Rattle.generated_network_laws.specs.Limits.{GeneratedNetworksHaveFewEdits};
 
 /// The files of a generated network are refused for no reason: they have a network, unless memory
-/// is wanting.
+/// runs out.
 pub fn generated_files_are_not_refused()
     ensures { GeneratedFilesAreNotRefused }
 {}

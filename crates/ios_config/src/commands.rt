@@ -56,7 +56,7 @@ fn open_after(line: &Line, command: &Command, current: BlockKind) -> BlockKind
     }
 }
 
-/// What is answered for the line of this number, which is no command.
+/// The fault of the line of this number, which is no command.
 fn refused(number: u32, fault: WordFault) -> ConfigFault
     ensures { result ≡ refusal number fault }
 {

@@ -50,7 +50,7 @@ pub(crate) fn push_words(alloc: Global, text: &mut Vec<u8>, words: &[Word]) -> R
     Ok(())
 }
 
-/// Adds the words, after `no` unless something is to be.
+/// Adds the words, after `no` where the setting is off.
 pub(crate) fn push_unless(
     alloc: Global,
     text: &mut Vec<u8>,

@@ -1,5 +1,5 @@
 //! A formula whose literals are one after another in one vector, so that a clause takes little
-//! more memory than its literals, and all of it is given back at once. Contracts see the formula.
+//! more memory than its literals, and all of it is freed at once. Contracts see the formula.
 #![tactic(auto)]
 
 mod clauses;

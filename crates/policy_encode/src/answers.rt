@@ -53,7 +53,7 @@ fn filter_condition(
     }
 }
 
-/// When the interface takes a route for the host network.
+/// The condition under which the interface accepts a route for the host network.
 pub(crate) fn route_condition(
     net: &Network,
     index: &EditIndex,
@@ -121,7 +121,8 @@ fn outbound_condition(
     }
 }
 
-/// When an arc permits the class: at the interface `tail` outbound, and at `head` inbound.
+/// The conditions under which an arc permits the class: at the interface `tail` outbound, and at
+/// `head` inbound.
 pub(crate) fn arc_lists(
     net: &Network,
     index: &EditIndex,
@@ -140,7 +141,7 @@ pub(crate) fn arc_lists(
     }
 }
 
-/// When the packets of the class enter at the source and leave at the target.
+/// The conditions under which the packets of the class enter at the source and leave at the target.
 pub(crate) fn class_ends(
     net: &Network,
     index: &EditIndex,

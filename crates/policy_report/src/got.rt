@@ -7,8 +7,7 @@ use proof_log::Step;
 /// What a line of a certificate gives its reader.
 #[derive(Drop)]
 pub enum Got {
-    /// A line that is a part of what goes on: of a block or of the head, or the line before the
-    /// log, or a comment in it.
+    /// A line inside a block or the head, the line before the log, or a comment in the log.
     More,
     /// The line that says what is claimed: the first one of a report, the second one of a repair.
     Head(CertForm),

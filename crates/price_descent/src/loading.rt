@@ -107,8 +107,7 @@ fn enter_all(core: &mut Core, formula: &PackedFormula, there: &mut [bool]) -> Re
     Ok(())
 }
 
-/// A core with the clauses of the formula, under the ids from 1 on. The formula's memory is given
-/// back.
+/// A core with the clauses of the formula, under the ids from 1 on. The formula's memory is freed.
 pub(crate) fn loaded(
     alloc: Global,
     formula: PackedFormula,

@@ -1,4 +1,4 @@
-//! Flags that are all taken away at once.
+//! Flags that are all cleared at once.
 ghost use Rattle.std.specs.Prelude.{◌≡◌, ◌<◌, true, false, length, replicate, slice_get, slice_set};
 ghost use Rattle.std.specs.Prelude.{IfOk};
 
@@ -7,7 +7,7 @@ use std::alloc::Global;
 use std::marker::Model;
 
 /// Flags, each under its place. A flag is set where its stamp is the current one, so that all are
-/// taken away in constant time, and only once in 2^32 times in time linear in their number.
+/// cleared in constant time, and only once in 2^32 calls in time linear in their number.
 /// Contracts see the list of the flags.
 #[derive(Debug, Drop)]
 pub(crate) struct Flags {

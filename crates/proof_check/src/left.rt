@@ -38,7 +38,7 @@ impl Marks {
         })
     }
 
-    /// Takes all marks away.
+    /// Clears all marks.
     fn clear(&mut self, alloc: Global)
         ensures none { (m : Lit) → is_marked self.new m ≡ is_among [] m }
         ensures flags { length self.new.near ≡ length self.old.near }

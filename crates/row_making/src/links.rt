@@ -49,7 +49,7 @@ fn link_row(names: &IndexSet<FullName<'_>>, link: &LinkText) -> Result<Option<Li
     }))
 }
 
-/// The place of an interface. There are fewer than 2^32, but where memory ends.
+/// The place of an interface in 32 bits. `Memory` where it does not fit.
 pub fn narrow(place: usize) -> Result<u32, Memory>
     ensures { IfOk result (λ narrowed. narrowed ≡ place) }
 {

@@ -7,7 +7,7 @@ use crate::outcome::Done;
 use arc_base::{CertKind, List, Name};
 use std::alloc::{AllocError, Global};
 
-/// What a certificate or a proof is judged to be.
+/// The judgement of a certificate or a proof.
 #[derive(Clone, Copy, Debug, PartialEq, Eq)]
 pub enum Judgement {
     Accepted,

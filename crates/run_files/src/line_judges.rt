@@ -10,7 +10,7 @@ use arc_outside::{Pieces, Store};
 use std::alloc::Global;
 use std::ops::ControlFlow;
 
-/// What judges a text whose lines come one by one.
+/// A judge of a text whose lines come one by one.
 pub trait LineJudge: Sized + Drop {
     ghost use Rattle.run_files.specs.Answers.{Gives, HasStopCause};
     ghost use Rattle.run_files.specs.LineJudges.{GoesOn, Judges};
@@ -18,7 +18,7 @@ pub trait LineJudge: Sized + Drop {
     ghost use Rattle.std.specs.ControlFlow.{continue_value};
     ghost use Rattle.std.specs.Prelude.{◌<◌, ◌∷◌, ℕ, [], List, IfErr, IfOk, IfSome};
 
-    /// What a text is judged to.
+    /// The outcome of judging a text.
     type Outcome;
 
     /// How many more lines may come.

@@ -58,7 +58,7 @@ impl Marks {
     }
 }
 
-/// Sets the mark of each literal of a clause, or takes it away.
+/// Sets the mark of each literal of a clause, or clears it.
 fn set(marks: &mut [bool], lits: &[Lit], mark: bool)
     requires { All (λ l. l.code < length marks.old) lits.now }
     ensures size { length marks.new ≡ length marks.old }

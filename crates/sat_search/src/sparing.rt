@@ -164,7 +164,8 @@ impl Spares {
         holds
     }
 
-    /// Neither a variable is implied nor those for whose reasons it was asked, one after another.
+    /// Notes that a variable is not implied, nor are those for whose reasons it was asked, one
+    /// after another.
     fn fail_from(&mut self, var: u64) {
         let mut next = var;
         for _ in 0..self.supposed.len() {
@@ -175,7 +176,7 @@ impl Spares {
         }
     }
 
-    /// Nothing is known of the variables that were taken for implied, but that some are not.
+    /// Forgets that variables were taken for implied. That some are not is kept.
     fn take_back(&mut self) {
         for _ in 0..self.supposed.len() {
             let Some(var) = self.supposed.pop() else {

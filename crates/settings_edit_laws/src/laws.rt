@@ -3,8 +3,8 @@ ghost use Rattle.settings_edit_laws.specs.Laws.{EditsAreFitting, NetworksAreWrit
 ghost use Rattle.settings_edit_laws.specs.Laws.{SettingsHaveTheNetwork, ShortListsHaveRoom};
 ghost use Rattle.settings_edit_laws.specs.Laws.{UntouchedFilesStay};
 
-/// Files that say the settings after edits are refused for no reason, and their network is the
-/// network after the edits.
+/// Files with the settings after edits are refused for no reason, and their network is the network
+/// after the edits.
 pub fn settings_have_the_network()
     ensures { SettingsHaveTheNetwork }
 {}
