@@ -1,17 +1,21 @@
 //! The edits of the two routers, their repair formula, their cheapest repair and a report on them,
 //! as they were worked out by hand.
-ghost use Rattle.std.specs.Prelude.{◌<◌, length};
+ghost use Rattle.net_doc.specs.Documents.{IsWellFormed};
+ghost use Rattle.net_model.specs.Forwarding.{HasEnds};
+ghost use Rattle.net_model.specs.Packets.{subject};
+ghost use Rattle.net_model.specs.Validity.{IsValid};
+ghost use Rattle.std.specs.Prelude.{◌<◌, length, All};
 
-use crate::pairs::two_routers;
+use crate::pairs::{Pair, two_routers};
 use arc_base::List;
 use arc_repair::{Answer, Check, Made, repair};
 use cnf_types::Clause;
-use edit_list::{Claim, Edit, edits};
+use edit_list::{Claim, Edit, EditFault, edits};
 use net_model::Network;
 use policy_encode::{Encoded, encode};
 use policy_report::{edit_line, edit_text};
 use proof_log::Log;
-use report_check::check_report;
+use report_check::{Outcome, check_report};
 use std::alloc::Global;
 use std::test::Fail;
 
@@ -43,14 +47,25 @@ fn push_edit(
     Ok(())
 }
 
+/// Appends all edits, a line each.
+fn push_edits(
+    alloc: Global,
+    texts: &mut Vec<u8>,
+    net: &Network,
+    list: &List<Edit>,
+) -> Result<(), Fail> {
+    for at in 0..list.len() {
+        push_edit(alloc, texts, net, list, at)?;
+    }
+    Ok(())
+}
+
 /// All edits, a line each.
 fn edit_texts(alloc: Global) -> Result<Vec<u8>, Fail> {
     let pair = two_routers(alloc)?;
     let list = edits(alloc, &pair.net, &pair.doc)?;
     let mut texts = Vec::new(alloc);
-    for at in 0..list.len() {
-        push_edit(alloc, &mut texts, &pair.net, &list, at)?;
-    }
+    push_edits(alloc, &mut texts, &pair.net, &list)?;
     Ok(texts)
 }
 
@@ -113,8 +128,11 @@ fn the_formula_has_these_clauses(rt: HostRuntime) -> Result<(), Fail> {
     Ok(())
 }
 
-/// Whether the claim of the check is accepted with this log.
-fn is_accepted(check: &mut Check, log: &Log) -> bool {
+/// Whether the claim that is checked is accepted with this log.
+fn is_accepted(made: Made, log: &Log) -> bool {
+    let Made::Good(mut check) = made else {
+        return false;
+    };
     for step in log.steps.slice() {
         if check.step(step).is_err() {
             return false;
@@ -124,38 +142,43 @@ fn is_accepted(check: &mut Check, log: &Log) -> bool {
 }
 
 /// The price of the cheapest repair, and whether it is accepted with its log.
-fn repaired(alloc: Global) -> Result<(u32, bool), Fail> {
-    let pair = two_routers(alloc)?;
-    let Answer::Done(claim, log) = repair(alloc, &pair.net, &pair.doc, 32, 50_000)? else {
-        return Err(Fail::from("no answer"));
+fn repaired(alloc: Global, pair: &Pair) -> Result<Option<(u32, bool)>, EditFault>
+    requires valid { IsValid pair.now.net }
+    requires ends { All (λ policy. HasEnds pair.now.net (subject policy)) pair.now.doc.policies }
+    requires well_formed { IsWellFormed pair.now.doc }
+{
+    let Answer::Done(claim, log) = &repair(alloc, &pair.net, &pair.doc, 32, 50_000)? else {
+        return Ok(None);
     };
-    let Claim::Repaired { price, .. } = &claim else {
-        return Err(Fail::from("no repair"));
+    let Claim::Repaired { price, .. } = claim else {
+        return Ok(None);
     };
-    let Made::Good(mut check) = Check::make(alloc, &pair.net, &pair.doc, &claim)? else {
-        return Err(Fail::from("a wrong claim"));
-    };
-    Ok((*price, is_accepted(&mut check, &log)))
+    let made = Check::make(alloc, &pair.net, &pair.doc, claim)?;
+    Ok(Some((*price, is_accepted(made, log))))
+}
+
+/// What `repaired` says of the two routers.
+fn two_repaired(alloc: Global) -> Result<Option<(u32, bool)>, Fail> {
+    Ok(repaired(alloc, &two_routers(alloc)?)?)
 }
 
 /// A list at one interface is enough, or a session that is turned.
 #[test]
 fn the_cheapest_repair_is_accepted(rt: HostRuntime) -> Result<(), Fail> {
-    assert_eq!(rt; repaired(rt.alloc())?, (1, true));
+    assert_eq!(rt; two_repaired(rt.alloc())?, Some((1, true)));
     Ok(())
 }
 
 /// The outcome of judging a text as a report.
-fn judged(alloc: Global, text: &str) -> Result<String, Fail> {
+fn judged(alloc: Global, text: &str) -> Result<Outcome, Fail> {
     let pair = two_routers(alloc)?;
-    let outcome = check_report(alloc, &pair.net, &pair.doc, text.as_bytes())?;
-    Ok(format!(in alloc; "{outcome:?}")?)
+    Ok(check_report(alloc, &pair.net, &pair.doc, text.as_bytes())?)
 }
 
 /// Packets are delivered over the link.
 #[test]
 fn a_report_is_judged(rt: HostRuntime) -> Result<(), Fail> {
     let text = "arc-report 1\n1 blocked no 1\nwalk 10.1.0.0/24 10.2.0.0/24 1\nend\n";
-    assert_eq!(rt; judged(rt.alloc(), text)?.as_str(), "Accepted");
+    assert_eq!(rt; judged(rt.alloc(), text)?, Outcome::Accepted);
     Ok(())
 }

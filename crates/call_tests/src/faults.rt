@@ -1,5 +1,6 @@
-//! Each call of a store or a sink fails in turn, or moves few bytes.
-
+//! Each call of a store or a sink fails in turn, or moves few bytes. That each status comes for its
+//! cause, and leaves what it must, is promised by the contract of `run` for every store and every
+//! sink; these cases show that it is the contract that was meant.
 ghost use Rattle.std.specs.Prelude.{◌≤◌};
 
 mod cases;
@@ -57,6 +58,14 @@ fn failing(alloc: Global, call: u64) -> Result<List<u64>, Memory> {
     Ok(fail)
 }
 
+fn words(alloc: Global, case: &Case) -> Result<List<Name>, Memory> {
+    let mut words = List::make(alloc);
+    for word in case.words {
+        push(&mut words, Name::make(alloc, word.as_bytes())?)?;
+    }
+    Ok(words)
+}
+
 /// The run of the case over a store that reads at most `read` bytes a call, and a sink that takes
 /// at most `put`. The store's call of the first number fails, and the sink's of the second, if
 /// there is one.
@@ -70,19 +79,11 @@ fn run_case(
     requires read { 1 ≤ read }
     requires put { 1 ≤ put }
 {
-    let mut words = List::make(alloc);
-    for word in case.words {
-        push(&mut words, Name::make(alloc, word.as_bytes())?)?;
-    }
-    let mut store = MemStore::short(alloc, files(alloc, case)?, read, failing(alloc, fails.0)?)?;
+    let fail = failing(alloc, fails.0)?;
+    let mut store = MemStore::short(alloc, files(alloc, case)?, read, fail)?;
     let mut out = MemSink::short(alloc, put, failing(alloc, fails.1)?);
-    let code = run(alloc, words.slice(), &mut store, &mut out).code;
+    let code = run(alloc, words(alloc, case)?.slice(), &mut store, &mut out).code;
     Ok(Ended { store, out, code })
-}
-
-/// The run in which the store's call of this number fails, if there is one.
-fn ended_by_store(alloc: Global, case: &Case, call: u64) -> Result<Ended, Memory> {
-    run_case(alloc, case, u32::MAX, u32::MAX, (call, 0))
 }
 
 /// Whether each file of the case is as it was.
@@ -120,61 +121,90 @@ fn holds_front(
     Ok(true)
 }
 
-/// Whether a run leaves the files as they were, and all that it writes as another run does.
-fn is_whole(alloc: Global, case: &Case, it: &Ended, other: &Ended) -> Result<bool, Memory> {
+/// How a run has to end: its status, the bytes that are printed, and how many of the files that it
+/// writes are begun, the last of which holds its first half unless it is `u64::MAX`.
+type End<'a> = (u8, &'a [u8], u64);
+
+/// The end where no call fails.
+fn whole_end(case: &Case) -> End<'static> {
+    (case.code, case.text.as_bytes(), u64::MAX)
+}
+
+/// The end where this call of the store fails: nothing is printed, and the files before the one
+/// that it writes are whole. After the last call none is left to fail.
+fn fault_end(case: &Case, call: u64) -> End<'static> {
+    if call > case.calls {
+        return whole_end(case);
+    }
+    let reads = case.calls.saturating_sub(case.outputs.len() as u64);
+    (6, &[], call.saturating_sub(reads))
+}
+
+/// The end where the put after these many bytes fails: all files are written. After the last byte
+/// no put is left to fail.
+fn put_end(case: &Case, count: usize) -> End<'static> {
+    if count >= case.text.len() {
+        return whole_end(case);
+    }
+    (7, &case.text.as_bytes()[..count], u64::MAX)
+}
+
+/// Whether a run ended so, where `whole` is the store after a run without a failing call.
+fn is_end(
+    alloc: Global,
+    case: &Case,
+    it: &Ended,
+    whole: &MemStore,
+    (code, text, begun): End,
+) -> Result<bool, Memory> {
+    let is_put = it.code == code && it.out.bytes() == text;
     Ok(
-        keeps_files(alloc, case, &it.store)?
-            && holds_front(alloc, case, &it.store, &other.store, 1000)?,
+        is_put
+            && keeps_files(alloc, case, &it.store)?
+            && holds_front(alloc, case, &it.store, whole, begun)?,
     )
 }
 
-/// Whether a run ends as the case says.
-fn is_answered(alloc: Global, case: &Case, it: &Ended) -> Result<bool, Memory> {
-    let is_put = it.code == case.code && it.out.bytes() == case.text.as_bytes();
-    Ok(is_put && keeps_files(alloc, case, &it.store)?)
+/// Whether the run that `run_case` makes of these ends so.
+fn ends(
+    alloc: Global,
+    case: &Case,
+    read: u32,
+    put: u32,
+    fails: (u64, u64),
+    end: End,
+) -> Result<bool, Memory>
+    requires read { 1 ≤ read }
+    requires put { 1 ≤ put }
+{
+    let whole = run_case(alloc, case, u32::MAX, u32::MAX, (0, 0))?;
+    let it = run_case(alloc, case, read, put, fails)?;
+    is_end(alloc, case, &it, &whole.store, end)
 }
 
-/// The first call of the store that fails and does not end the run as it has to: with status 6,
-/// nothing printed, and of the files that are written those before the failing one whole. After the
-/// last call none is left to fail.
-fn wrong_fault(alloc: Global, case: &Case, whole: &Ended) -> Result<Option<u64>, Memory> {
-    let reads = case.calls.saturating_sub(case.outputs.len() as u64);
-    for call in 1..1000 {
-        let it = ended_by_store(alloc, case, call)?;
-        if call > case.calls {
-            let is_right = is_answered(alloc, case, &it)? && is_whole(alloc, case, &it, whole)?;
-            return Ok(if is_right { None } else { Some(call) });
-        }
-        let is_stopped = it.code == 6 && it.out.bytes().is_empty();
-        let count = call.saturating_sub(reads);
-        if !is_stopped
-            || !keeps_files(alloc, case, &it.store)?
-            || !holds_front(alloc, case, &it.store, &whole.store, count)?
-        {
+/// The first call of the store that fails and does not end the run as it has to.
+fn wrong_fault(alloc: Global, case: &Case) -> Result<Option<u64>, Memory> {
+    for call in 1..case.calls.saturating_add(2) {
+        let end = fault_end(case, call);
+        if !ends(alloc, case, u32::MAX, u32::MAX, (call, 0), end)? {
             return Ok(Some(call));
         }
     }
-    Ok(Some(1000))
+    Ok(None)
 }
 
-/// The first put of at most `step` bytes that fails and does not end the run as it has to: with
-/// status 7, the bytes before it printed, and the files written. After the last put none is left to
-/// fail.
-fn wrong_put(alloc: Global, case: &Case, whole: &Ended, step: u32) -> Result<Option<u64>, Memory>
+/// The first put of at most `step` bytes that fails and does not end the run as it has to.
+fn wrong_put(alloc: Global, case: &Case, step: u32) -> Result<Option<u64>, Memory>
     requires { 1 ≤ step }
 {
     let mut count = 0usize;
     for call in 1..1000 {
-        let it = run_case(alloc, case, u32::MAX, step, (0, call))?;
-        if !is_whole(alloc, case, &it, whole)? {
+        let end = put_end(case, count);
+        if !ends(alloc, case, u32::MAX, step, (0, call), end)? {
             return Ok(Some(call));
         }
         if count >= case.text.len() {
-            let is_right = is_answered(alloc, case, &it)?;
-            return Ok(if is_right { None } else { Some(call) });
-        }
-        if it.code != 7 || it.out.bytes() != &case.text.as_bytes()[..count] {
-            return Ok(Some(call));
+            return Ok(None);
         }
         count = count.saturating_add(step as usize);
     }
@@ -183,11 +213,8 @@ fn wrong_put(alloc: Global, case: &Case, whole: &Ended, step: u32) -> Result<Opt
 
 #[test]
 fn each_store_call_fails_in_turn(rt: HostRuntime) -> Result<(), Fail> {
-    let alloc = rt.alloc();
     for (at, case) in CASES.iter().enumerate() {
-        let whole = ended_by_store(alloc, case, 0)?;
-        assert!(rt; is_answered(alloc, case, &whole)?, "case {at}");
-        assert_eq!(rt; wrong_fault(alloc, case, &whole)?, None, "case {at}");
+        assert_eq!(rt; wrong_fault(rt.alloc(), case)?, None, "case {at}");
     }
     Ok(())
 }
@@ -196,24 +223,18 @@ fn each_store_call_fails_in_turn(rt: HostRuntime) -> Result<(), Fail> {
 /// letters.
 #[test]
 fn each_put_fails_in_turn(rt: HostRuntime) -> Result<(), Fail> {
-    let alloc = rt.alloc();
-    let whole = ended_by_store(alloc, &CASES[0], 0)?;
-    assert_eq!(rt; wrong_put(alloc, &CASES[0], &whole, 1)?, None);
+    assert_eq!(rt; wrong_put(rt.alloc(), &CASES[0], 1)?, None);
     for (at, case) in CASES.iter().enumerate() {
-        let whole = ended_by_store(alloc, case, 0)?;
-        assert_eq!(rt; wrong_put(alloc, case, &whole, 16)?, None, "case {at}");
+        assert_eq!(rt; wrong_put(rt.alloc(), case, 16)?, None, "case {at}");
     }
     Ok(())
 }
 
 #[test]
 fn short_calls_change_nothing(rt: HostRuntime) -> Result<(), Fail> {
-    let alloc = rt.alloc();
     for (at, case) in CASES.iter().enumerate() {
-        let whole = ended_by_store(alloc, case, 0)?;
-        let it = run_case(alloc, case, 7, 1, (0, 0))?;
-        assert!(rt; is_answered(alloc, case, &it)?, "case {at}");
-        assert!(rt; is_whole(alloc, case, &it, &whole)?, "case {at}");
+        let is_right = ends(rt.alloc(), case, 7, 1, (0, 0), whole_end(case))?;
+        assert!(rt; is_right, "case {at}");
     }
     Ok(())
 }
