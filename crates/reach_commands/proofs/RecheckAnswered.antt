@@ -1,14 +1,9 @@
 -- The answers of `recheck`.
-use Rattle.std.proofs.Common.{◌≡◌, ◌≤◌, inr, List, [], ◌∙◌, subst}
+use Rattle.std.proofs.Common.{◌≡◌, inr, List, [], ◌∙◌, subst}
 use Rattle.std.specs.Prelude.{Option, Some, None, IfSome, Ok, Err}
-use Rattle.std.specs.List.{AllZip}
-use Rattle.arc_base.specs.declared.place.Link.{Link}
 use Rattle.arc_outside.specs.Files.{Files}
 use Rattle.net_model.specs.declared.policies.Document.{Document}
 use Rattle.net_model.specs.declared.verdicts.Verdict.{Verdict}
-use Rattle.arc_recheck.specs.declared.rechecking.Rechecked.{Rechecked}
-use Rattle.arc_recheck.specs.Singles.{IsAloneAnswer}
-use Rattle.arc_recheck.specs.Texts.{recheck_text}
 use Rattle.command_words.specs.declared.commands.RecheckWords.{RecheckWords}
 use Rattle.run_files.specs.declared.limits.Limits.TheVariants.{Judging}
 use Rattle.run_files.specs.declared.outcome.Done.{Done}
@@ -22,7 +17,7 @@ use Rattle.run_files.proofs.OneAnswer.{refused_none}
 use Rattle.run_inputs.specs.declared.inputs.Input.{Input}
 use Rattle.run_inputs.specs.Counts.{CountsClasses, PoliciesHaveFewClasses}
 use Rattle.run_inputs.specs.Inputs.{HoldsDocument, IsFit, ReadsDocumentAt, ReadsRouterFiles}
-use Rattle.reach_commands.specs.RecheckRuns.{AreRechecked, rechecked_status, IsRecheckAnswer, IsRecheckRefusal}
+use Rattle.reach_commands.specs.RecheckRuns.{IsRecheckOf, IsRecheckAnswer, IsRecheckRefusal}
 use Rattle.reach_commands.specs.ReportLines.{ReadsHeld}
 
 -- a document that is refused for its classes
@@ -64,18 +59,14 @@ reading_stopped held one two three first second third words input stop read late
     let R : Option Files → Type 0 = λ o. IfSome o (λ files. ReadsHeld proof_limit input.net input.doc words.report files (Err stop)) in
     reading_stopped_here held words input stop (subst P first read) (subst R (third ∙ second ∙ first) late)
 
-answered_here : (held : Option Files) (words : RecheckWords) (doc : Document) (input : Input) (blocks : List Verdict) (rechecked : List Rechecked)
-    (alone : List (Option (List Link))) (done : Done) →
+answered_here : (held : Option Files) (words : RecheckWords) (doc : Document) (input : Input) (blocks : List Verdict) (done : Done) →
     IfSome held (λ files. ReadsDocumentAt words.document files (Ok doc)) → IfSome held (λ files. IsWithinLimit proof_limit files words.report (Ok tt)) →
     IfSome held (λ files. HoldsDocument words.document files doc → ReadsRouterFiles Judging [] words.document files (Ok input)) → IsFit input → PoliciesHaveFewClasses input.net input.doc.policies →
-    IfSome held (λ files. ReadsHeld proof_limit input.net input.doc words.report files (Ok blocks)) →
-    AreRechecked input.net input.doc.policies blocks rechecked → AllZip (IsAloneAnswer input.net) input.doc.policies alone →
-    done.text ≡ recheck_text input.net input.doc.policies rechecked alone → done.writes ≡ [] → done.status ≡ rechecked_status rechecked → done.status ≤ 1 →
+    IfSome held (λ files. ReadsHeld proof_limit input.net input.doc words.report files (Ok blocks)) → IsRecheckOf input.net input.doc.policies blocks done → IsJudging done →
     Answers IsJudging (IsRecheckRefusal words) (IsRecheckAnswer words) held (Ok done)
-answered_here None words doc input blocks rechecked alone done told read input_is fit classes are_held are_rechecked are_alone text writes status few =
-    (record { status = few; writes = writes }, tt)
-answered_here (Some files) words doc input blocks rechecked alone done told read input_is fit classes are_held are_rechecked are_alone text writes status few = (
-  record { status = few; writes = writes },
+answered_here None words doc input blocks done told read input_is fit classes are_held answer judging = (judging, tt)
+answered_here (Some files) words doc input blocks done told read input_is fit classes are_held answer judging = (
+  judging,
   record {
     doc = input.doc;
     net = input.net;
@@ -83,26 +74,17 @@ answered_here (Some files) words doc input blocks rechecked alone done told read
     valid = fit.valid;
     held = read;
     classes = classes;
-    rechecked = rechecked;
-    are_rechecked = subst (λ (bs : List Verdict). AreRechecked input.net input.doc.policies bs rechecked) are_held are_rechecked;
-    alone = alone;
-    are_alone = are_alone;
-    text = text;
-    writes = writes;
-    status = status;
+    answer = subst (λ (bs : List Verdict). IsRecheckOf input.net input.doc.policies bs done) are_held answer;
   },
 )
 
-pub answered : (held one two three : Option Files) → one ≡ held → two ≡ one → three ≡ two → (words : RecheckWords) (doc : Document) (input : Input) (blocks : List Verdict)
-    (rechecked : List Rechecked) (alone : List (Option (List Link))) (done : Done) →
+pub answered : (held one two three : Option Files) → one ≡ held → two ≡ one → three ≡ two → (words : RecheckWords) (doc : Document) (input : Input) (blocks : List Verdict) (done : Done) →
     IfSome held (λ files. ReadsDocumentAt words.document files (Ok doc)) → IfSome one (λ files. IsWithinLimit proof_limit files words.report (Ok tt)) →
     IfSome two (λ files. HoldsDocument words.document files doc → ReadsRouterFiles Judging [] words.document files (Ok input)) → IsFit input → PoliciesHaveFewClasses input.net input.doc.policies →
-    IfSome three (λ files. ReadsHeld proof_limit input.net input.doc words.report files (Ok blocks)) →
-    AreRechecked input.net input.doc.policies blocks rechecked → AllZip (IsAloneAnswer input.net) input.doc.policies alone →
-    done.text ≡ recheck_text input.net input.doc.policies rechecked alone → done.writes ≡ [] → done.status ≡ rechecked_status rechecked → done.status ≤ 1 →
+    IfSome three (λ files. ReadsHeld proof_limit input.net input.doc words.report files (Ok blocks)) → IsRecheckOf input.net input.doc.policies blocks done → IsJudging done →
     Answers IsJudging (IsRecheckRefusal words) (IsRecheckAnswer words) held (Ok done)
-answered held one two three first second third words doc input blocks rechecked alone done told read input_is fit classes are_held =
+answered held one two three first second third words doc input blocks done told read input_is fit classes are_held =
     let P : Option Files → Type 0 = λ o. IfSome o (λ files. IsWithinLimit proof_limit files words.report (Ok tt)) in
     let Q : Option Files → Type 0 = λ o. IfSome o (λ files. HoldsDocument words.document files doc → ReadsRouterFiles Judging [] words.document files (Ok input)) in
     let R : Option Files → Type 0 = λ o. IfSome o (λ files. ReadsHeld proof_limit input.net input.doc words.report files (Ok blocks)) in
-    answered_here held words doc input blocks rechecked alone done told (subst P first read) (subst Q (second ∙ first) input_is) fit classes (subst R (third ∙ second ∙ first) are_held)
+    answered_here held words doc input blocks done told (subst P first read) (subst Q (second ∙ first) input_is) fit classes (subst R (third ∙ second ∙ first) are_held)

@@ -83,19 +83,19 @@ module _ (words : RecheckWords) (files : Files) where
     | inr judging ↦ (judged_once Judging words.document files).not_both doc net r input classes judging.0
   ]
 
-  rights : (d : Done) (done : IsRecheckAnswer words files d) → AllZip (IsRightOn done.net) done.doc.policies done.rechecked
-  rights d done = are_right done.net done.doc.policies _ done.rechecked done.are_rechecked
+  rights : (d : Done) (done : IsRecheckAnswer words files d) → AllZip (IsRightOn done.net) done.doc.policies done.answer.rechecked
+  rights d done = are_right done.net done.doc.policies _ done.answer.rechecked done.answer.are_rechecked
 
-  told_as : (d : Done) (done : IsRecheckAnswer words files d) (b : Bool) → list_all yes done.rechecked ≡ b → TellsRecheck words d.status files
+  told_as : (d : Done) (done : IsRecheckAnswer words files d) (b : Bool) → list_all yes done.answer.rechecked ≡ b → TellsRecheck words d.status files
   told_as d done true is =
-      let status : d.status ≡ 0 = done.status ∙ ap (λ (y : Bool). if y then 0 else 1) is in
+      let status : d.status ≡ 0 = done.answer.status ∙ ap (λ (y : Bool). if y then 0 else 1) is in
       let says : RecheckSaysYes words files = record {
         doc = done.doc;
         net = done.net;
         input = done.input;
         held = done.held;
         classes = done.classes;
-        meets = met_if done.net done.valid done.doc.policies done.rechecked (rights d done) is;
+        meets = met_if done.net done.valid done.doc.policies done.answer.rechecked (rights d done) is;
       } in
       record {
         yes_exactly = (λ e. says, λ s. status);
@@ -104,14 +104,14 @@ module _ (words : RecheckWords) (files : Files) where
         nothing_else = inl status;
       }
   told_as d done false is =
-      let status : d.status ≡ 1 = done.status ∙ ap (λ (y : Bool). if y then 0 else 1) is in
+      let status : d.status ≡ 1 = done.answer.status ∙ ap (λ (y : Bool). if y then 0 else 1) is in
       let says : RecheckSaysNo words files = record {
         doc = done.doc;
         net = done.net;
         input = done.input;
         held = done.held;
         classes = done.classes;
-        meets_not = λ meets. false≢true (sym is ∙ yes_if done.net done.valid done.doc.policies done.rechecked (rights d done) meets);
+        meets_not = λ meets. false≢true (sym is ∙ yes_if done.net done.valid done.doc.policies done.answer.rechecked (rights d done) meets);
       } in
       record {
         yes_exactly = (λ e. absurd (omega (arith, status, e)), λ yes'. absurd (yes_or_no yes' says));
@@ -121,7 +121,7 @@ module _ (words : RecheckWords) (files : Files) where
       }
 
   pub told_done : (d : Done) → IsRecheckAnswer words files d → TellsRecheck words d.status files
-  told_done d done = told_as d done (list_all yes done.rechecked) refl
+  told_done d done = told_as d done (list_all yes done.answer.rechecked) refl
 
   pub told_refused : (r : FileRefusal) → IsRecheckRefusal words files r → TellsRecheck words 5 files
   told_refused r refused = record {

@@ -68,7 +68,19 @@ IsRightOn net policy r = IsRight net policy r.verdict
 abbrev pub rechecked_status : List Rechecked → ℕ
 rechecked_status rechecked = if list_all (λ r. is_yes r.verdict) rechecked then 0 else 1
 
--- the text of the rechecked verdicts, and of the links whose failure alone breaks each reach policy
+-- the text of policies rechecked against the verdicts of the old report, and of the links whose
+-- failure alone breaks each reach policy
+pub record IsRecheckOf (net : Network) (policies : List Policy) (held : List Verdict)
+    (done : Done) : Type 0 where
+  pub rechecked : List Rechecked
+  pub are_rechecked : AreRechecked net policies held rechecked
+  pub alone : List (Option (List Link))
+  pub are_alone : AllZip (IsAloneAnswer net) policies alone
+  pub text : done.text ≡ recheck_text net policies rechecked alone
+  pub writes : done.writes ≡ []
+  pub status : done.status ≡ rechecked_status rechecked
+
+-- the recheck of the document's policies against the blocks that the old report holds
 pub record IsRecheckAnswer (words : RecheckWords) (files : Files) (done : Done) : Type 0 where
   pub doc : Document
   pub net : Network
@@ -76,14 +88,8 @@ pub record IsRecheckAnswer (words : RecheckWords) (files : Files) (done : Done) 
   pub valid : IsValid net
   pub held : read_refusal proof_limit files words.report ≡ None
   pub classes : PoliciesHaveFewClasses net doc.policies
-  pub rechecked : List Rechecked
-  pub are_rechecked :
-      AreRechecked net doc.policies (held_of net doc (bytes_at files words.report)) rechecked
-  pub alone : List (Option (List Link))
-  pub are_alone : AllZip (IsAloneAnswer net) doc.policies alone
-  pub text : done.text ≡ recheck_text net doc.policies rechecked alone
-  pub writes : done.writes ≡ []
-  pub status : done.status ≡ rechecked_status rechecked
+  pub answer :
+      IsRecheckOf net doc.policies (held_of net doc (bytes_at files words.report)) done
 
 -- the input has a network and not too many classes, the old report can be read, and the network
 -- meets every policy

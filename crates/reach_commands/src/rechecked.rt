@@ -3,7 +3,7 @@ ghost use Rattle.arc_recheck.specs.Singles.{IsAloneAnswer};
 ghost use Rattle.class_graph.specs.LastGraphs.{IsGraphOfTable};
 ghost use Rattle.net_model.specs.Witnesses.{is_yes};
 ghost use Rattle.reach_commands.specs.RecheckRuns.{AreRechecked, IsRightOn, rechecked_status};
-ghost use Rattle.reach_commands.specs.RecheckRuns.{IsRecheckRefusal, IsRecheckAnswer};
+ghost use Rattle.reach_commands.specs.RecheckRuns.{IsRecheckOf, IsRecheckRefusal, IsRecheckAnswer};
 ghost use Rattle.run_files.specs.Answers.{Answers, IsJudging, OnlyReads};
 ghost use Rattle.run_files.specs.Limits.{least_limit};
 ghost use Rattle.run_inputs.specs.Counts.{PoliciesHaveFewClasses};
@@ -114,6 +114,29 @@ fn are_all_yes(rechecked: &[Rechecked]) -> bool
     rechecked.iter().all(|one| one.verdict.is_yes())
 }
 
+/// Rechecks each policy against the block that is held for it, and prints the verdicts and, for
+/// each reach policy that holds, the links whose failure alone breaks it.
+fn recheck_held<L: Listener>(
+    alloc: Global,
+    input: &Input,
+    held: &List<Verdict>,
+    listener: &mut L,
+) -> Result<Done, Memory>
+    requires fit { IsFit input.now }
+    requires few { PoliciesHaveFewClasses input.now.net input.now.doc.policies }
+    ensures answer { IfOk result (IsRecheckOf input.now.net input.now.doc.policies held.now) }
+    ensures judging { IfOk result IsJudging }
+{
+    let rechecked = recheck_all(alloc, input, held, listener)?;
+    let found = alone_all(alloc, input, &rechecked)?;
+    let text = recheck_text(alloc, &input.net, &input.doc.policies, &rechecked, &found)?;
+    Ok(Done {
+        text: Name::of(text),
+        writes: List::make(alloc),
+        status: status_of(rechecked.slice()),
+    })
+}
+
 /// Rechecks an old report over the document and the router files as they are now: keeps each
 /// verdict whose witness is still right, judges the others anew, and prints for each reach policy
 /// that holds the links whose failure alone breaks it. The old report is read twice: for its size,
@@ -142,12 +165,6 @@ pub fn recheck<S: Store, L: Listener>(
         PROOF_LIMIT,
         store,
     )?;
-    let rechecked = recheck_all(alloc, &input, &held, listener)?;
-    let found = alone_all(alloc, &input, &rechecked)?;
-    let text = recheck_text(alloc, &input.net, &input.doc.policies, &rechecked, &found)?;
-    Ok(Done {
-        text: Name::of(text),
-        writes: List::make(alloc),
-        status: status_of(rechecked.slice()),
-    })
+    let done = recheck_held(alloc, &input, &held, listener)?;
+    Ok(done)
 }
