@@ -51,16 +51,16 @@ module _ (words : NodesWords) (files : Files) where
     | inr many ↦ classes_none words.document (nodes_policy words) files doc net input classes r many
   ]
 
-  told_as : (d : Done) (done : IsNodesAnswer words files d) (b : Bool) → is_node_yes done.verdict ≡ b → TellsNodes words d.status files
+  told_as : (d : Done) (done : IsNodesAnswer words files d) (b : Bool) → is_node_yes done.answer.verdict ≡ b → TellsNodes words d.status files
   told_as d done true is =
-      let status : d.status ≡ 0 = done.status ∙ ap (λ (y : Bool). if y then 0 else 1) is in
+      let status : d.status ≡ 0 = done.answer.status ∙ ap (λ (y : Bool). if y then 0 else 1) is in
       let says : NodesSayYes words files = record {
         doc = done.doc;
         net = done.net;
         input = done.input;
         ends = done.ends;
         classes = done.classes;
-        meets = (right_verdicts_decide done.net done.valid (nodes_policy words) done.verdict done.right).0 is;
+        meets = (right_verdicts_decide done.net done.valid (nodes_policy words) done.answer.verdict done.answer.right).0 is;
       } in
       record {
         yes_exactly = (λ e. says, λ s. status);
@@ -69,14 +69,14 @@ module _ (words : NodesWords) (files : Files) where
         nothing_else = inl status;
       }
   told_as d done false is =
-      let status : d.status ≡ 1 = done.status ∙ ap (λ (y : Bool). if y then 0 else 1) is in
+      let status : d.status ≡ 1 = done.answer.status ∙ ap (λ (y : Bool). if y then 0 else 1) is in
       let says : NodesSayNo words files = record {
         doc = done.doc;
         net = done.net;
         input = done.input;
         ends = done.ends;
         classes = done.classes;
-        meets_not = λ meets. false≢true (sym is ∙ (right_verdicts_decide done.net done.valid (nodes_policy words) done.verdict done.right).1 meets);
+        meets_not = λ meets. false≢true (sym is ∙ (right_verdicts_decide done.net done.valid (nodes_policy words) done.answer.verdict done.answer.right).1 meets);
       } in
       record {
         yes_exactly = (λ e. absurd (omega (arith, status, e)), λ yes'. absurd (yes_or_no yes' says));
@@ -86,7 +86,7 @@ module _ (words : NodesWords) (files : Files) where
       }
 
   pub told_done : (d : Done) → IsNodesAnswer words files d → TellsNodes words d.status files
-  told_done d done = told_as d done (is_node_yes done.verdict) refl
+  told_done d done = told_as d done (is_node_yes done.answer.verdict) refl
 
   pub told_refused : (r : FileRefusal) → IsNodesRefusal words files r → TellsNodes words 5 files
   told_refused r refused = record {

@@ -81,9 +81,9 @@ module _ (words : PrefersWords) (files : Files) where
     ]
   ]
 
-  told_as : (d : Done) (done : IsPrefersAnswer words files d) (fault : Option Stray) → done.answer.fault ≡ fault → TellsPrefers words d.status files
+  told_as : (d : Done) (done : IsPrefersAnswer words files d) (fault : Option Stray) → done.answer.answer.fault ≡ fault → TellsPrefers words d.status files
   told_as d done None is =
-      let status : d.status ≡ 0 = done.status ∙ ap prefers_status is in
+      let status : d.status ≡ 0 = done.answer.status ∙ ap prefers_status is in
       let says : PrefersSaysYes words files = record {
         doc = done.doc;
         net = done.net;
@@ -92,7 +92,7 @@ module _ (words : PrefersWords) (files : Files) where
         wanted = done.wanted;
         named = done.named;
         classes = done.classes;
-        prefers = (right_answers_decide done.net done.valid (prefers_policy words) done.wanted done.answer done.right).0 (ap is_some is);
+        prefers = (right_answers_decide done.net done.valid (prefers_policy words) done.wanted done.answer.answer done.answer.right).0 (ap is_some is);
       } in
       record {
         yes_exactly = (λ e. says, λ s. status);
@@ -105,7 +105,7 @@ module _ (words : PrefersWords) (files : Files) where
         nothing_else = inl status;
       }
   told_as d done (Some stray) is =
-      let status : d.status ≡ 1 = done.status ∙ ap prefers_status is in
+      let status : d.status ≡ 1 = done.answer.status ∙ ap prefers_status is in
       let says : PrefersSaysNo words files = record {
         doc = done.doc;
         net = done.net;
@@ -114,7 +114,7 @@ module _ (words : PrefersWords) (files : Files) where
         wanted = done.wanted;
         named = done.named;
         classes = done.classes;
-        prefers_not = λ prefers. false≢true (sym ((right_answers_decide done.net done.valid (prefers_policy words) done.wanted done.answer done.right).1 prefers) ∙ ap is_some is);
+        prefers_not = λ prefers. false≢true (sym ((right_answers_decide done.net done.valid (prefers_policy words) done.wanted done.answer.answer done.answer.right).1 prefers) ∙ ap is_some is);
       } in
       record {
         yes_exactly = (λ e. absurd (omega (arith, status, e)), λ yes'. absurd (yes_or_no yes' says done.valid));
@@ -124,7 +124,7 @@ module _ (words : PrefersWords) (files : Files) where
       }
 
   pub told_done : (d : Done) → IsPrefersAnswer words files d → TellsPrefers words d.status files
-  told_done d done = told_as d done done.answer.fault refl
+  told_done d done = told_as d done done.answer.answer.fault refl
 
   pub told_refused : (r : FileRefusal) → IsPrefersRefusal words files r → TellsPrefers words 5 files
   told_refused r refused = record {

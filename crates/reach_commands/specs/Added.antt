@@ -1,6 +1,6 @@
 -- Commands that judge one more policy besides those of the document: one from a prefix of the words
 -- to another, at the end of the policies.
-use Rattle.std.specs.Prelude.{◌≡◌, ℕ, List, [], ◌∷◌, ◌++◌, Result, Ok, Err}
+use Rattle.std.specs.Prelude.{◌≡◌, ℕ, List, [], ◌∷◌, ◌++◌, Option, IfSome, Result, Ok, Err}
 use Rattle.arc_base.specs.declared.prefix.Prefix.{Prefix}
 use Rattle.arc_base.specs.declared.refusal.Kind.TheVariants.{Endpoint, Limit}
 use Rattle.arc_base.specs.declared.refusal.LimitKind.TheVariants.{Classes}
@@ -12,9 +12,11 @@ use Rattle.net_model.specs.declared.rows.Network.{Network}
 use Rattle.net_model.specs.Services.{whole_service}
 use Rattle.net_rules.specs.Addressing.{HasEndpoints}
 use Rattle.run_files.specs.declared.limits.Limits.TheVariants.{Judging}
+use Rattle.run_files.specs.declared.outcome.Done.{Done}
 use Rattle.run_files.specs.declared.outcome.FileRefusal.{FileRefusal}
 use Rattle.run_files.specs.declared.outcome.Stop.{Stop}
 use Rattle.run_files.specs.declared.outcome.Stop.TheVariants as stops
+use Rattle.run_files.specs.Answers.{Answers, IsJudging}
 use Rattle.run_inputs.specs.Counts.{HasManyClasses}
 use Rattle.run_inputs.specs.Inputs.{HoldsInput}
 use Rattle.run_files.specs.Refusals.{refusal_of}
@@ -58,3 +60,12 @@ AddsPolicy document net policies policy (Err (stops.Refused r)) =
     (¬ HasEndpoints net policy.from policy.to) × (r ≡ refusal_of document 0 Endpoint)
 AddsPolicy document net policies policy (Err stops.Memory) = Unit {0}
 AddsPolicy document net policies policy (Err stops.Failed) = ⊥
+
+-- What a command that judges answers over the network of a document with these policies: its answer
+-- or first refusal by whatever the store holds, if that holds such a document with this network.
+abbrev pub AnswersOver : List ℕ → Network → List Policy → (Files → FileRefusal → Type 0) →
+    (Files → Done → Type 0) → Result Done Stop → Type 0
+AnswersOver document net policies IsRefusal IsAnswer result =
+    (held : Option Files) (doc : Document) → doc.policies ≡ policies →
+    IfSome held (λ files. HoldsInput Judging [] document files doc net) →
+    Answers IsJudging IsRefusal IsAnswer held result

@@ -1,5 +1,5 @@
 -- The command `nodes DOC FROM TO K`.
-use Rattle.std.specs.Prelude.{◌≡◌, ◌↔◌, ◌⊎◌, ℕ, [], if◌then◌else◌}
+use Rattle.std.specs.Prelude.{◌≡◌, ◌↔◌, ◌⊎◌, ℕ, List, [], if◌then◌else◌}
 use Rattle.arc_outside.specs.Files.{Files}
 use Rattle.net_model.specs.declared.policies.Document.{Document}
 use Rattle.net_model.specs.declared.policies.Policy.{Policy}
@@ -35,7 +35,17 @@ IsNodesRefusal words files r =
 abbrev pub nodes_status : NodeVerdict → ℕ
 nodes_status v = if is_node_yes v then 0 else 1
 
--- the text of a right verdict, which is the one that is given
+-- the text of a right verdict on a policy among these, which is the one that is given
+pub record IsNodesOf (net : Network) (policies : List Policy) (policy : Policy) (failures : ℕ)
+    (done : Done) : Type 0 where
+  pub verdict : NodeVerdict
+  pub right : IsRightNodeVerdict net policy verdict
+  pub given : IsGiven net policies policy verdict
+  pub text : done.text ≡ nodes_text net failures verdict
+  pub writes : done.writes ≡ []
+  pub status : done.status ≡ nodes_status verdict
+
+-- the text of a right verdict on the policy that the words make
 pub record IsNodesAnswer (words : NodesWords) (files : Files) (done : Done) : Type 0 where
   pub doc : Document
   pub net : Network
@@ -43,12 +53,8 @@ pub record IsNodesAnswer (words : NodesWords) (files : Files) (done : Done) : Ty
   pub valid : IsValid net
   pub ends : HasEndpoints net words.from words.to
   pub classes : PoliciesHaveFewClasses net (policies_with doc (nodes_policy words))
-  pub verdict : NodeVerdict
-  pub right : IsRightNodeVerdict net (nodes_policy words) verdict
-  pub given : IsGiven net (policies_with doc (nodes_policy words)) (nodes_policy words) verdict
-  pub text : done.text ≡ nodes_text net words.failures verdict
-  pub writes : done.writes ≡ []
-  pub status : done.status ≡ nodes_status verdict
+  pub answer : IsNodesOf net (policies_with doc (nodes_policy words)) (nodes_policy words)
+      words.failures done
 
 -- the input has a network with these ends and not too many classes, which meets the policy
 -- whichever K routers other than the ends fail

@@ -81,7 +81,18 @@ abbrev pub prefers_status : Option Stray → ℕ
 prefers_status None = 0
 prefers_status (Some stray) = 1
 
--- the text of a right answer, whose fault is of the first class that has one
+-- the text of a right answer for a policy among these, whose fault is of the first class that has
+-- one
+pub record IsPrefersOf (net : Network) (policies : List Policy) (policy : Policy)
+    (wanted : List Router) (done : Done) : Type 0 where
+  pub answer : Preferred
+  pub right : IsRightPreferred net policy wanted answer
+  pub first : IfSome answer.fault (IsOfFirstClass net policies policy wanted)
+  pub text : done.text ≡ prefers_text net answer
+  pub writes : done.writes ≡ []
+  pub status : done.status ≡ prefers_status answer.fault
+
+-- the text of a right answer for the policy that the words make
 pub record IsPrefersAnswer (words : PrefersWords) (files : Files) (done : Done) : Type 0 where
   pub doc : Document
   pub net : Network
@@ -91,13 +102,8 @@ pub record IsPrefersAnswer (words : PrefersWords) (files : Files) (done : Done) 
   pub wanted : List Router
   pub named : AreNamed net words.routers wanted
   pub classes : PoliciesHaveFewClasses net (policies_with doc (prefers_policy words))
-  pub answer : Preferred
-  pub right : IsRightPreferred net (prefers_policy words) wanted answer
-  pub first : IfSome answer.fault
-      (IsOfFirstClass net (policies_with doc (prefers_policy words)) (prefers_policy words) wanted)
-  pub text : done.text ≡ prefers_text net answer
-  pub writes : done.writes ≡ []
-  pub status : done.status ≡ prefers_status answer.fault
+  pub answer : IsPrefersOf net (policies_with doc (prefers_policy words)) (prefers_policy words)
+      wanted done
 
 -- the input has a network with these ends and routers and not too many classes, which prefers the
 -- list
