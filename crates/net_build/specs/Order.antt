@@ -38,10 +38,17 @@ pub data Try : Type 0 where
 abbrev pub router_tries : List Try
 router_tries = Hostname ∷ Protocol ∷ TwoAreas ∷ SameAs ∷ []
 
--- the tries of the links, of those that are to be down, and of the neighbours and networks that the
--- lines of BGP name
+-- the tries of the links and of those that are to be down
+abbrev pub end_tries : List Try
+end_tries = LinkFace ∷ DownLinks ∷ []
+
+-- the tries of the neighbours and networks that the lines of BGP name
+abbrev pub session_tries : List Try
+session_tries = NeighborUnknown ∷ NetworkNotConnected ∷ []
+
+-- the tries of the links, and of the sessions over them
 abbrev pub link_tries : List Try
-link_tries = LinkFace ∷ DownLinks ∷ NeighborUnknown ∷ NetworkNotConnected ∷ []
+link_tries = end_tries ++ session_tries
 
 -- the tries of the whole network
 abbrev pub network_tries : List Try

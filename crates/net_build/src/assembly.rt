@@ -2,7 +2,7 @@
 ghost use Rattle.arc_base.specs.Lists.{AreDistinct};
 ghost use Rattle.net_build.specs.Networks.{Assembles};
 ghost use Rattle.net_build.specs.Order.{RefusesWithin, AnswersTries, router_tries, link_tries};
-ghost use Rattle.net_build.specs.Order.{network_tries};
+ghost use Rattle.net_build.specs.Order.{network_tries, end_tries, session_tries};
 ghost use Rattle.net_model.specs.Validity.{IsValid};
 ghost use Rattle.net_model.specs.declared.policies.Document.{Document};
 ghost use Rattle.net_rules.specs.Addressing.{HasEndpoints};
@@ -16,7 +16,7 @@ ghost use Rattle.net_rules.specs.Routers.{RefusesHostname};
 ghost use Rattle.net_rules.specs.Rows.{IsFaceRow, IsLinkRow, AreBaseRows, AreRows, AreSessions};
 ghost use Rattle.net_rules.specs.Sites.{sites, full_names, ends_of};
 ghost use Rattle.std.specs.List.{AllZip};
-ghost use Rattle.std.specs.Prelude.{◌≡◌, ◌≤◌, ℕ, List, All, IfOk, OnOk, length, map};
+ghost use Rattle.std.specs.Prelude.{◌≡◌, ◌≤◌, ℕ, List, [], All, IfOk, OnOk, length, map};
 
 use arc_base::limits::{LINK_LIMIT, POLICY_LIMIT, ROUTER_LIMIT};
 use arc_base::{List, Memory};
@@ -72,22 +72,6 @@ fn faces_of(
     face_rows(alloc, &around, configs)
 }
 
-fn sessions_of(
-    alloc: Global,
-    net: &Network,
-    configs: &List<Config>,
-) -> Result<List<SessionRow>, Memory>
-    requires few { length configs.now ≤ ROUTER_LIMIT }
-    requires lists { AreRouteLists configs.now net.now.route_lists }
-    ensures { IfOk result (λ sessions. (doc : Document) →
-        NoRefusal (RefusesLinkFace doc configs.now) → AreBaseRows doc configs.now net.now →
-        AreSessions net.now.protocol configs.now net.now.links
-        (map route_list_key net.now.route_lists) sessions) }
-{
-    let lists = index_route_lists(alloc, &net.route_lists)?;
-    session_rows(alloc, net, configs, &lists)
-}
-
 /// The rows of the network over these links, without the sessions.
 fn rows(
     alloc: Global,
@@ -117,6 +101,52 @@ fn rows(
     })
 }
 
+/// The links of the document, with their ends in the set, or the first refusal of the links and of
+/// those to be down.
+fn links_of<'a>(
+    alloc: Global,
+    doc: &'a Document,
+    configs: &List<Config>,
+    down: &[u32],
+    ends: &mut IndexSet<FullName<'a>>,
+) -> Result<List<LinkRow>, NetFault>
+    requires links { length doc.now.links ≤ LINK_LIMIT }
+    requires named { AreDistinct (full_names configs.now) }
+    requires empty { ends.old.keys ≡ [] }
+    ensures answer { (most : ℕ) →
+        AnswersTries (RefusesWithin down.now most doc.now configs.now) end_tries
+        (AllZip (IsLinkRow (full_names configs.now)) doc.now.links) result }
+    ensures ends { OnOk result (names_at ends.new.keys ≡ ends_of doc.now.links) }
+{
+    let names = index_names(alloc, configs)?;
+    let links = try_links(alloc, doc, configs, &names, ends)?;
+    try_down_links(doc, down)?;
+    Ok(links)
+}
+
+/// The sessions of the network, or the first refusal of neighbours and of `network` lines.
+fn try_sessions(
+    alloc: Global,
+    net: &Network,
+    configs: &List<Config>,
+) -> Result<List<SessionRow>, NetFault>
+    requires few { length configs.now ≤ ROUTER_LIMIT }
+    requires well_formed { All IsWellFormed configs.now }
+    requires named { AreDistinct (full_names configs.now) }
+    requires lists { AreRouteLists configs.now net.now.route_lists }
+    ensures { (down : List ℕ) (most : ℕ) (doc : Document) →
+        NoRefusal (RefusesLinkFace doc configs.now) → AreBaseRows doc configs.now net.now →
+        AnswersTries (RefusesWithin down most doc configs.now) session_tries
+        (AreSessions net.now.protocol configs.now net.now.links
+        (map route_list_key net.now.route_lists)) result }
+{
+    try_neighbors(alloc, net, configs)?;
+    try_networks(alloc, configs)?;
+    let lists = index_route_lists(alloc, &net.route_lists)?;
+    let sessions = session_rows(alloc, net, configs, &lists)?;
+    Ok(sessions)
+}
+
 /// The network of routers that passed their checks, or the first refusal of the links, of those to
 /// be down, of neighbours and of `network` lines.
 fn joined(
@@ -133,14 +163,10 @@ fn joined(
         AnswersTries (RefusesWithin down.now most doc.now configs.now) link_tries
         (AreRows doc.now configs.now) result }
 {
-    let names = index_names(alloc, configs)?;
     let mut ends = IndexSet::new(alloc);
-    let links = try_links(alloc, doc, configs, &names, &mut ends)?;
-    try_down_links(doc, down)?;
+    let links = links_of(alloc, doc, configs, down, &mut ends)?;
     let mut net = rows(alloc, configs, &ends, links)?;
-    try_neighbors(alloc, &net, configs)?;
-    try_networks(alloc, configs)?;
-    net.sessions = sessions_of(alloc, &net, configs)?;
+    net.sessions = try_sessions(alloc, &net, configs)?;
     Ok(net)
 }
 
