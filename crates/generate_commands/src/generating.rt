@@ -1,5 +1,8 @@
 //! The command `generate N --proof NAME`.
-ghost use Rattle.generate_commands.specs.Generates.{IsGenerateRefusal, IsSummary};
+ghost use Rattle.edit_list.specs.Determined.{IsCountable};
+ghost use Rattle.file_copies.specs.Changes.{IsEditable};
+ghost use Rattle.generate_commands.specs.Generates.{IsGenerateRefusal, IsMadeNetwork};
+ghost use Rattle.generate_commands.specs.Generates.{IsSummary};
 ghost use Rattle.generate_commands.specs.Steps.{IsSomeGenerated};
 ghost use Rattle.net_build.specs.Networks.{IsBuiltWithin};
 ghost use Rattle.run_files.specs.Answers.{Gives, HasStopCause};
@@ -50,23 +53,26 @@ fn build(alloc: Global, made: &Generated) -> Result<Built, Memory>
     }
 }
 
-/// Makes the network of this many routers, judges its policies, and repairs it with the default
-/// bounds of `repair` on price and conflicts. It reads nothing, and writes only the certificate.
-/// Most of its time goes into the search.
-pub fn generate<L: Listener>(
+/// Finds the cheapest repair of the network that was made, within the default bounds of `repair` on
+/// price and conflicts, judges its policies, and prints both.
+fn repair_made<L: Listener>(
     alloc: Global,
     words: &GenerateWords,
+    made: &Generated,
+    built: &Built,
     listener: &mut L,
 ) -> Result<Done, Stop>
-    requires some { FEWEST_GENERATED ≤ words.now.number }
-    requires few { words.now.number ≤ MOST_GENERATED }
+    requires number { words.now.number ≤ MOST_GENERATED }
+    requires made { IsMadeNetwork words.now made.now built.now }
+    requires fit { AreFit made.now.doc built.now.net }
+    requires policies { length made.now.doc.policies ≤ POLICY_LIMIT }
+    requires editable { IsCountable built.now.net →
+        IsEditable made.now.doc built.now made.now.files }
     ensures answer { Gives (IsGenerateRefusal words.now) (IsSummary words.now) result }
     ensures cause { IfErr result (HasStopCause ⊥ ⊥ ⊥) }
 {
     verdicts_are_right();
     networks_after_edits_are_valid();
-    let made = net_gen::generate(alloc, words.number)?;
-    let built = build(alloc, &made)?;
     let (net, doc) = (&built.net, &made.doc);
     let document = Name::make(alloc, DOCUMENT)?;
     let (list, answer) = match find_repair(
@@ -83,4 +89,22 @@ pub fn generate<L: Listener>(
     let verdicts = judge_all(alloc, net, &doc.policies, listener)?;
     let done = answer_done(alloc, words, net, doc, &verdicts, &list, &answer)?;
     Ok(done)
+}
+
+/// Makes the network of this many routers, judges its policies, and repairs it with the default
+/// bounds of `repair` on price and conflicts. It reads nothing, and writes only the certificate.
+/// Most of its time goes into the search.
+pub fn generate<L: Listener>(
+    alloc: Global,
+    words: &GenerateWords,
+    listener: &mut L,
+) -> Result<Done, Stop>
+    requires some { FEWEST_GENERATED ≤ words.now.number }
+    requires few { words.now.number ≤ MOST_GENERATED }
+    ensures answer { Gives (IsGenerateRefusal words.now) (IsSummary words.now) result }
+    ensures cause { IfErr result (HasStopCause ⊥ ⊥ ⊥) }
+{
+    let made = net_gen::generate(alloc, words.number)?;
+    let built = build(alloc, &made)?;
+    repair_made(alloc, words, &made, &built, listener)
 }

@@ -1,64 +1,20 @@
-use Rattle.std.proofs.Common.{ℕ, List, arith, subst}
-use Rattle.std.proofs.lemmas.Result.{err_from_is_err_and}
-use Rattle.run_inputs.specs.Counts.{StopsFor}
-use Rattle.run_inputs.proofs.EditFaults.{stop_cause}
-use Rattle.repair_commands.proofs.Repaired.{whole}
-use Rattle.generate_commands.proofs.Answered.{counts_stopped, few_each, summed}
-use Rattle.generate_commands.specs.Generates.{default_bound, default_conflicts}
+use Rattle.std.proofs.Common.{arith}
 use Rattle.generate_commands.proofs.Made.{well_formed}
 use Rattle.generate_commands.proofs.generating.generate.Goals as goal
 
 pub build-requires-clause-generated : goal.build-requires-clause-generated
 build-requires-clause-generated g c = (c.args.words.now.number, record { some = c.requires.some; few = c.requires.few; is = c.in_ok-made.ensures.generated })
 
-pub returns-in-Err-clause-answer : goal.returns-in-Err-clause-answer
-returns-in-Err-clause-answer g c =
-    counts_stopped c.args.words.now c.in_ok-made.made c.in_ok-built.built c.in-Err.fault c.fault_stop.result
-    (record { generated = c.in_ok-made.ensures.generated; is_built = c.in_ok-built.ensures.built }) c.in_ok-built.ensures.fit.valid c.in-Err.ensures.fault
-    (subst (λ (name : List ℕ). StopsFor name c.in-Err.fault c.fault_stop.result) c.in_ok-document.ensures c.fault_stop.ensures)
+pub repair_made-requires-clause-made : goal.repair_made-requires-clause-made
+repair_made-requires-clause-made g c = record { generated = c.in_ok-made.ensures.generated; is_built = c.in_ok-built.ensures.built }
 
-pub returns-in-Err-clause-cause : goal.returns-in-Err-clause-cause
-returns-in-Err-clause-cause g c = stop_cause ⊥ ⊥ ⊥ c.in_ok-document.document c.in-Err.fault c.fault_stop.result c.fault_stop.ensures
-
-pub judge_all-requires-clause-classes : goal.judge_all-requires-clause-classes
-judge_all-requires-clause-classes g c = few_each c.in_ok-built.built.net c.in_ok-made.made.doc c.in-Ok.ensures.found.answered.limits.classes
-
-pub answer_done-requires-clause-whole : goal.answer_done-requires-clause-whole
-answer_done-requires-clause-whole g c =
-    whole c.in_ok-built.built.net c.in_ok-made.made.doc c.in-Ok.found.0 default_bound default_conflicts c.in-Ok.found.1 c.in-Ok.ensures.found.answered.is_answer
-
-pub returns-in_err-verdicts-clause-answer : goal.returns-in_err-verdicts-clause-answer
-returns-in_err-verdicts-clause-answer g c =
-    let p = err_from_is_err_and c.from_residual-in_err-verdicts.result c.from_residual-in_err-verdicts.ensures.1 in
-    rw (p.1, p.2) tt
-
-pub returns-in_err-verdicts-clause-cause : goal.returns-in_err-verdicts-clause-cause
-returns-in_err-verdicts-clause-cause g c =
-    let p = err_from_is_err_and c.from_residual-in_err-verdicts.result c.from_residual-in_err-verdicts.ensures.1 in
-    rw (p.1, p.2) tt
-
-pub returns-in_err-done-clause-answer : goal.returns-in_err-done-clause-answer
-returns-in_err-done-clause-answer g c =
-    let p = err_from_is_err_and c.from_residual-in_err-done.result c.from_residual-in_err-done.ensures.1 in
-    rw (p.1, p.2) tt
-
-pub returns-in_err-done-clause-cause : goal.returns-in_err-done-clause-cause
-returns-in_err-done-clause-cause g c =
-    let p = err_from_is_err_and c.from_residual-in_err-done.result c.from_residual-in_err-done.ensures.1 in
-    rw (p.1, p.2) tt
-
-pub returns-clause-answer : goal.returns-clause-answer
-returns-clause-answer g c =
-    summed c.verdicts_are_right.ensures.ends c.verdicts_are_right.ensures.verdicts c.verdicts_are_right.ensures.decide
-    c.networks_after_edits_are_valid.ensures.valid c.args.words.now c.in_ok-made.made c.in_ok-built.built c.in-Ok.found.0 c.in-Ok.found.1 c.in_ok-verdicts.verdicts c.in_ok-done.done
-    (record { generated = c.in_ok-made.ensures.generated; is_built = c.in_ok-built.ensures.built })
-    (record {
-      well_formed = well_formed c.args.words.now.number c.in_ok-made.made (record { some = c.requires.some; few = c.requires.few; is = c.in_ok-made.ensures.generated })
-          (omega (arith, c.in_ok-made.ensures.links, c.requires.few)) (omega (arith, c.in_ok-made.ensures.policies, c.requires.few));
-      fit = c.in_ok-built.ensures.fit;
-      countable = c.in-Ok.ensures.found.countable;
-      is_built = c.in_ok-built.ensures.built;
-      count = c.in_ok-made.ensures.files;
-      bytes = λ i d l. omega (arith, c.in_ok-made.ensures.short i d l);
-    })
-    c.in-Ok.ensures.found.answered c.in_ok-verdicts.ensures.right c.in_ok-done.ensures.writes c.in_ok-done.ensures.short c.in_ok-done.ensures.text c.in_ok-done.ensures.status
+pub repair_made-requires-clause-editable : goal.repair_made-requires-clause-editable
+repair_made-requires-clause-editable g c = λ countable. record {
+  well_formed = well_formed c.args.words.now.number c.in_ok-made.made (record { some = c.requires.some; few = c.requires.few; is = c.in_ok-made.ensures.generated })
+      (omega (arith, c.in_ok-made.ensures.links, c.requires.few)) (omega (arith, c.in_ok-made.ensures.policies, c.requires.few));
+  fit = c.in_ok-built.ensures.fit;
+  countable = countable;
+  is_built = c.in_ok-built.ensures.built;
+  count = c.in_ok-made.ensures.files;
+  bytes = λ i d l. omega (arith, c.in_ok-made.ensures.short i d l);
+}
