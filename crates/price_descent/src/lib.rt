@@ -4,6 +4,7 @@
 //! to a checker.
 #![tactic(auto)]
 
+mod attempting;
 mod beginning;
 mod bounding;
 mod descending;

@@ -5,6 +5,7 @@
 //! has the id of its place in the formula, whatever the order.
 ghost use Rattle.clean_logs.specs.Laws.{HasItsVariables};
 ghost use Rattle.price_descent.specs.Loading.{HasPart, HasFormula, AreKept, is_there};
+ghost use Rattle.sat_core.specs.States.{no_clauses};
 ghost use Rattle.std.specs.Prelude.{◌≡◌, ◌+◌, ◌<◌, ◌≤◌, ◌^◌, ℕ, length, IfOk, OnOk, IsTrue};
 
 use arc_base::Memory;
@@ -107,6 +108,28 @@ fn enter_all(core: &mut Core, formula: &PackedFormula, there: &mut [bool]) -> Re
     Ok(())
 }
 
+/// Adds the clauses of the formula to an empty core, in the order of their arrangement.
+fn fill(
+    alloc: Global,
+    core: &mut Core,
+    formula: &PackedFormula,
+    edits: u32,
+    numbers: u32,
+) -> Result<(), Memory>
+    requires variables { HasItsVariables formula.now }
+    requires empty { core.old ≡ no_clauses formula.now.vars }
+    ensures formula { OnOk result (HasFormula formula.now core.new) }
+    ensures few { OnOk result (length formula.now.clauses < 2 ^ 32) }
+{
+    let count = formula.clauses().len();
+    let mut there = vec![in alloc; false; count as usize + 1]?;
+    let arrangement = Arrangement::of(count, edits, numbers);
+    let flags = there.as_mut_slice();
+    enter_arranged(core, formula, flags, arrangement)?;
+    enter_all(core, formula, flags)?;
+    Ok(())
+}
+
 /// A core with the clauses of the formula, under the ids from 1 on. The formula's memory is freed.
 pub(crate) fn loaded(
     alloc: Global,
@@ -119,12 +142,7 @@ pub(crate) fn loaded(
     ensures formula { IfOk result (HasFormula formula) }
     ensures few { IfOk result (λ core. length formula.clauses < 2 ^ 32) }
 {
-    let count = formula.clauses().len();
     let mut core = Core::make(alloc, formula.vars())?;
-    let mut there = vec![in alloc; false; count as usize + 1]?;
-    let arrangement = Arrangement::of(count, edits, numbers);
-    let flags = there.as_mut_slice();
-    enter_arranged(&mut core, &formula, flags, arrangement)?;
-    enter_all(&mut core, &formula, flags)?;
+    fill(alloc, &mut core, &formula, edits, numbers)?;
     Ok(core)
 }

@@ -1,5 +1,0 @@
-use Rattle.price_descent.proofs.Parts.{all_there}
-use Rattle.price_descent.proofs.loading.loaded.Goals as goal
-
-pub returns-clause-formula : goal.returns-clause-formula
-returns-clause-formula c = all_there c.args.formula c.enter_all.new.there c.enter_all.new.core c.in_ok-enter_all.ensures.part c.in_ok-enter_all.ensures.all
