@@ -62,6 +62,34 @@ fn answer<S: Store, L: Listener>(
     }
 }
 
+/// The outcome of a command.
+fn outcome_of<S: Store, L: Listener>(
+    alloc: Global,
+    command: &Command,
+    store: &mut S,
+    listener: &mut L,
+) -> Result<Outcome, Halt>
+    requires { HasLimit command.now }
+    ensures defined { IfOk result (λ outcome.
+        IsDefined (Some command.now) (S.held store.old) outcome) }
+    ensures small { IfOk result (λ outcome. status_of outcome ≤ 5) }
+    ensures cause { IfOk result
+        (HasOutcomeCause (Rose (S.absences store.old) (S.absences store.new))
+        (TookMore least_limit (S.taken store.old) (S.taken store.new))) }
+    ensures failed { RoseWhere (IsErrOf result Halt.Failed) (S.faults store.old)
+        (S.faults store.new) }
+    ensures same { S.held store.new ≡ S.held store.old }
+    ensures absences { S.absences store.old ≤ S.absences store.new }
+    ensures taken { TookOn (S.taken store.old) (S.taken store.new) }
+{
+    match answer(alloc, command, store, listener) {
+        Ok(done) => Ok(Outcome::Done(done)),
+        Err(Stop::Refused(refusal)) => Ok(Outcome::Refused(refusal)),
+        Err(Stop::Memory) => Err(Halt::Memory),
+        Err(Stop::Failed) => Err(Halt::Failed),
+    }
+}
+
 /// Finds the outcome that the words and the files define. It writes nothing.
 fn perform<S: Store, L: Listener>(
     alloc: Global,
@@ -82,16 +110,10 @@ fn perform<S: Store, L: Listener>(
     ensures absences { S.absences store.old ≤ S.absences store.new }
     ensures taken { TookOn (S.taken store.old) (S.taken store.new) }
 {
-    let command = match read_words(alloc, words) {
-        Ok(Some(command)) => command,
-        Ok(None) => return Ok(Outcome::Usage),
-        Err(_) => return Err(Halt::Memory),
-    };
-    match answer(alloc, &command, store, listener) {
-        Ok(done) => Ok(Outcome::Done(done)),
-        Err(Stop::Refused(refusal)) => Ok(Outcome::Refused(refusal)),
-        Err(Stop::Memory) => Err(Halt::Memory),
-        Err(Stop::Failed) => Err(Halt::Failed),
+    match read_words(alloc, words) {
+        Ok(Some(command)) => outcome_of(alloc, &command, store, listener),
+        Ok(None) => Ok(Outcome::Usage),
+        Err(_) => Err(Halt::Memory),
     }
 }
 
