@@ -1,10 +1,10 @@
 //! One search of a descent.
 ghost use Rattle.clean_logs.specs.CleanLogs.{additions};
+ghost use Rattle.cnf_types.specs.declared.clauses.Formula.{Formula};
 ghost use Rattle.price_descent.specs.Outcomes.{IsKnownBound};
 ghost use Rattle.price_descent.specs.Prices.{ArePriced};
 ghost use Rattle.price_descent.specs.Progress.{IsAttempt, IsUnderway};
 ghost use Rattle.proof_check.specs.Logs.{adds_empty};
-ghost use Rattle.cnf_types.specs.declared.clauses.Formula.{Formula};
 ghost use Rattle.sat_core.specs.Trails.{IsOf};
 ghost use Rattle.std.specs.List.{list_any};
 ghost use Rattle.std.specs.Prelude.{◌≡◌, ◌+◌, ◌<◌, ◌≤◌, ◌^◌, ℕ, length, All, IfOk, IsFalse};
@@ -32,8 +32,8 @@ pub(crate) enum Attempt {
     Offered(Offer),
 }
 
-/// Searches for a model that keeps the bounds of the log, and prices its first `count` values. Where
-/// the log adds `limit` clauses, it does not search.
+/// Searches for a model that keeps the bounds of the log, and prices its first `count` values.
+/// Where the log adds `limit` clauses, it does not search.
 pub(crate) fn make_attempt<P: Prices, L: Listener>(
     alloc: Global,
     prices: &P,
