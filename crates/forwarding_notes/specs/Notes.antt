@@ -32,13 +32,16 @@ pub record IsAfterLines (net : Network) (doc : Document) (text : List ℕ)
   pub lines : AreEditLines net list (line_texts text)
   pub after_is : IsAfter net (chosen_of list (chosen_by net list (line_texts text))) after
 
--- the document and its files have an open network, and after the edits that the lines of the text
--- name OSPF no longer runs everywhere in it
-pub record AreClosed (document text : List ℕ) (files : Files) : Type 0 where
-  pub doc : Document
-  pub net : Network
+-- the network is open, but OSPF no longer runs everywhere after the edits that the lines name
+pub record Closes (net : Network) (doc : Document) (text : List ℕ) : Type 0 where
   pub after : Network
-  pub input : HoldsInput Editing [] document files doc net
   pub opened : IsOpenNetwork net
   pub edited : IsAfterLines net doc text after
   pub closed : ¬ RunsEverywhere after
+
+-- the edits that the lines of the text name close the network of the document and its files
+pub record AreClosed (document text : List ℕ) (files : Files) : Type 0 where
+  pub doc : Document
+  pub net : Network
+  pub input : HoldsInput Editing [] document files doc net
+  pub closes : Closes net doc text

@@ -1,5 +1,5 @@
 //! Whether OSPF runs everywhere in the network of router files, and whether edits end this.
-ghost use Rattle.forwarding_notes.specs.Notes.{SaysOfAny, IsAfterLines, AreClosed};
+ghost use Rattle.forwarding_notes.specs.Notes.{SaysOfAny, IsAfterLines, Closes, AreClosed};
 ghost use Rattle.net_doc.specs.Documents.{IsWellFormed};
 ghost use Rattle.run_inputs.specs.Inputs.{AreFit, HoldsDocument};
 ghost use Rattle.std.specs.Prelude.{◌≡◌, ◌≤◌, ◌<◌, ◌^◌, length, IfOk, IfSome, IsTrue};
@@ -56,6 +56,23 @@ fn after_lines(
     }
 }
 
+/// Whether OSPF runs everywhere in a network, but not after the edits that the lines of a text
+/// name.
+fn closes(alloc: Global, net: &Network, doc: &Document, text: &[u8]) -> Result<bool, Memory>
+    requires fit { AreFit doc.now net.now }
+    requires policies { length doc.now.policies ≤ POLICY_LIMIT }
+    requires few { length text.now < 2 ^ 32 }
+    ensures { IfOk result (λ closes. IsTrue closes → Closes net.now doc.now text.now) }
+{
+    if !runs_everywhere(net) {
+        return Ok(false);
+    }
+    match after_lines(alloc, net, doc, text)? {
+        Some(after) => Ok(!runs_everywhere(&after)),
+        None => Ok(false),
+    }
+}
+
 /// Whether OSPF runs everywhere in the network of a document and its router files, but not after
 /// the edits that the lines of a text name. Then a yes over the network after them need not hold
 /// for any forwarding.
@@ -73,12 +90,5 @@ pub fn edits_close<S: Store>(
     ensures same { S.held store.new ≡ S.held store.old }
 {
     let sources = read_sources(alloc, document, doc, &[], Limits::Editing, store)?;
-    let net = &sources.built.net;
-    if !runs_everywhere(net) {
-        return Ok(false);
-    }
-    match after_lines(alloc, net, doc, text)? {
-        Some(after) => Ok(!runs_everywhere(&after)),
-        None => Ok(false),
-    }
+    Ok(closes(alloc, &sources.built.net, doc, text)?)
 }
