@@ -4,18 +4,13 @@
 //! status.
 #![tactic(auto)]
 
-mod again;
-mod messages;
-mod notes;
 mod progress;
-mod refusals;
 
-use crate::again::Again;
-use crate::messages::explain;
 use crate::progress::ProgressLine;
 use arc_base::{List, Memory, Name};
 use arc_outside::{DiskStore, StdSink};
-use arc_run::run_telling;
+use arc_run::{Ended, Outcome, run_telling};
+use run_explanations::Explainer;
 use std::alloc::Global;
 use std::process::ExitCode;
 use std::{env, io};
@@ -37,6 +32,20 @@ fn words(rt: &HostRuntime, alloc: Global) -> Result<List<Name>, Memory> {
     Ok(words)
 }
 
+/// Explains how a run ended, beyond its output and status.
+fn explain(explainer: &mut Explainer<'_, HostRuntime>, ended: &Ended) -> io::Result<()> {
+    let rt = explainer.rt;
+    match (ended.status.code, &ended.outcome) {
+        (0 | 1, Some(Outcome::Done(done))) => explainer.explain_answer(done),
+        (4, _) => explainer.explain_words(),
+        (5, Some(Outcome::Refused(refusal))) => explainer.explain_refusal(refusal),
+        (6, _) => explainer.explain_failure(),
+        (7, _) => eprintln!(rt; "arcv: cannot write to standard output"),
+        (8, _) => eprintln!(rt; "arcv: out of memory"),
+        _ => Ok(()),
+    }
+}
+
 fn main(rt: HostRuntime) -> ExitCode {
     let alloc = rt.alloc();
     let Ok(words) = words(&rt, alloc) else {
@@ -47,11 +56,11 @@ fn main(rt: HostRuntime) -> ExitCode {
     let mut line = ProgressLine::make(&rt);
     let ended = run_telling(alloc, words.slice(), &mut store, &mut out, &mut line);
     let _erased = line.erase();
-    let mut again = Again {
+    let mut explainer = Explainer {
         rt: &rt,
         words: words.slice(),
         store: &mut store,
     };
-    let _said = explain(&mut again, &ended);
+    let _said = explain(&mut explainer, &ended);
     ExitCode::from(ended.status.code)
 }

@@ -1,4 +1,4 @@
-//! The words of a run and its files, which are read once more for a message.
+//! The words of a run and its files, which are read once more for an explanation.
 ghost use Rattle.std.specs.Prelude.{◌≤◌};
 
 use arc_base::Name;
@@ -7,25 +7,24 @@ use arc_outside::{DiskStore, Pieces, read_all};
 use command_words::{Command, read_words};
 use net_model::Document;
 use run_inputs::read_document;
+use std::rt::Files;
 use std::{fs, str};
 
-/// The files of the system.
-pub type Disk = DiskStore<HostRuntime>;
-
-/// The words of a run that has ended, and the files of the system.
+/// What explains how a run ended: its words, and the files of the system. Messages go to standard
+/// error.
 #[derive(Drop)]
-pub struct Again<'a> {
-    pub rt: &'a HostRuntime,
+pub struct Explainer<'a, R: Files> {
+    pub rt: &'a R,
     pub words: &'a [Name],
-    pub store: &'a mut Disk,
+    pub store: &'a mut DiskStore<R>,
 }
 
-impl<'a> Again<'a> {
+impl<'a, R: AllocGlobal + Files> Explainer<'a, R> {
     ghost use Rattle.net_doc.specs.Documents.{IsWellFormed};
     ghost use Rattle.std.specs.Prelude.{◌≤◌, length, IfSome};
 
     /// The command that the words match.
-    pub fn command(&self) -> Option<Command> {
+    pub(crate) fn command(&self) -> Option<Command> {
         read_words(self.rt.alloc(), self.words).ok()?
     }
 
@@ -42,7 +41,7 @@ impl<'a> Again<'a> {
     }
 
     /// The text of a file, if it can be read again.
-    pub fn text(&mut self, name: &Name) -> Option<Vec<u8>>
+    pub(crate) fn text(&mut self, name: &Name) -> Option<Vec<u8>>
         ensures { IfSome result (λ text. length text.items ≤ ROUTER_FILE_LIMIT) }
     {
         if !self.is_plain(name) {
@@ -52,7 +51,7 @@ impl<'a> Again<'a> {
     }
 
     /// A document, if it can be read again.
-    pub fn document(&mut self, name: &Name) -> Option<Document>
+    pub(crate) fn document(&mut self, name: &Name) -> Option<Document>
         ensures { IfSome result IsWellFormed }
     {
         if !self.is_plain(name) {
@@ -62,7 +61,7 @@ impl<'a> Again<'a> {
     }
 
     /// A document, if it and its router files can be read again.
-    pub fn whole_document(&mut self, name: &Name) -> Option<Document>
+    pub(crate) fn whole_document(&mut self, name: &Name) -> Option<Document>
         ensures { IfSome result IsWellFormed }
     {
         let doc = self.document(name)?;
@@ -74,7 +73,7 @@ impl<'a> Again<'a> {
     }
 
     /// The pieces of a file whose lines are read one by one, if it can be read again.
-    pub fn pieces(&self, name: &Name) -> Option<Pieces> {
+    pub(crate) fn pieces(&self, name: &Name) -> Option<Pieces> {
         if !self.is_plain(name) {
             return None;
         }
@@ -82,7 +81,7 @@ impl<'a> Again<'a> {
     }
 
     /// The next line of a file, until its end or a failure.
-    pub fn line<'b>(&mut self, pieces: &'b mut Pieces, name: &Name) -> Option<&'b [u8]> {
+    pub(crate) fn line<'b>(&mut self, pieces: &'b mut Pieces, name: &Name) -> Option<&'b [u8]> {
         if pieces.failed() {
             return None;
         }
